@@ -96,25 +96,6 @@ module _ {L C : Type 0} (state : L → LinkState) (start_at : L → LinkStart) w
   unlinked_turn s s' p w x [] context session attempts e next run turn = turn run
   unlinked_turn s s' p w x (r ∷ own) context session attempts e next run turn = absurd run.holds
 
-  -- it counts one end at most
-  pub unlinked_turn_bounds : (s s' : Start) (p : Passed) (w x : World) (own : List (Returned L))
-      (context : C) (session : Box HttpSession) (attempts : List AttemptRecord) (e : Error)
-      (next : Phase L C) (work : Work) (tasks ends : ℕ)
-      → RunSoFar state start_at s p w own (Unlinked context session attempts e)
-      → (RunSoFar state start_at s p w [] (Unlinked context session attempts e)
-      → Advances state start_at s' x next)
-      → CountsCall attempts next work
-      → PhaseCounts state start_at tasks ends s w.client w.ahead own
-      (Unlinked context session attempts e)
-      → TurnedCounts state start_at (work.moved + tasks) (work.ended + ends) s' x.client x.ahead own
-      next
-  unlinked_turn_bounds s s' p w x [] context session attempts e next work tasks ends run turn counts
-      had =
-      let on = turn run in
-      call_bounds state start_at s' on.passed x next work attempts tasks ends on.run counts had
-  unlinked_turn_bounds s s' p w x (r ∷ own) context session attempts e next work tasks ends run turn
-      counts had = absurd run.holds
-
   -- and one that makes the head of an attempt
   pub prepare_turn : (s s' : Start) (p : Passed) (w x : World) (own : List (Returned L))
       (context : C) (session : Box HttpSession) (link : L) (lease : Lease) (next : Phase L C)
@@ -360,6 +341,25 @@ module _ {L C : Type 0} (state : L → LinkState) (start_at : L → LinkStart) w
       still_counts n used client [] next none (asked n had)
   broken_counts s p (r ∷ own) w context session link lease keep e n used client next run had none
       asked = absurd run.holds
+
+  -- the turn that has the error of a request without a link answered counts one end at most
+  pub unlinked_turn_bounds : (s s' : Start) (p : Passed) (w x : World) (own : List (Returned L))
+      (context : C) (session : Box HttpSession) (attempts : List AttemptRecord) (e : Error)
+      (next : Phase L C) (work : Work) (tasks ends : ℕ)
+      → RunSoFar state start_at s p w own (Unlinked context session attempts e)
+      → (RunSoFar state start_at s p w [] (Unlinked context session attempts e)
+      → Advances state start_at s' x next)
+      → CountsCall attempts next work
+      → PhaseCounts state start_at tasks ends s w.client w.ahead own
+      (Unlinked context session attempts e)
+      → TurnedCounts state start_at (work.moved + tasks) (work.ended + ends) s' x.client x.ahead own
+      next
+  unlinked_turn_bounds s s' p w x [] context session attempts e next work tasks ends run turn counts
+      had =
+      let on = turn run in
+      call_bounds state start_at s' on.passed x next work attempts tasks ends on.run counts had
+  unlinked_turn_bounds s s' p w x (r ∷ own) context session attempts e next work tasks ends run turn
+      counts had = absurd run.holds
 
   -- what was taken before it was, before the next phase
   pub prepare_offers : (context : C) (session : Box HttpSession) (link : L) (lease : Lease)
