@@ -1,5 +1,6 @@
--- Turns of the connector that gave no link: another attempt follows, or the client is to be answered.
-use Rattle.std.proofs.Common.{◌≡◌, ◌≢◌, ◌⊎◌, ℕ, ◌≤◌, Bool, false, true, List, [], ◌∷◌, ◌++◌, length, Some, None, refl, sym, ap, subst, ◌∙◌, inl, inr, arith}
+-- Turns of the connector that gave no link: another attempt follows, or the client is to be
+-- answered.
+use Rattle.std.proofs.Common.{◌≡◌, ◌≢◌, ◌⊎◌, ℕ, ◌≤◌, Bool, false, List, [], ◌∷◌, ◌++◌, length, Some, None, refl, sym, ap, subst, ◌∙◌, inl, inr, arith}
 use Rattle.std.specs.Global.{Box}
 use Rattle.relay_tasks.specs.Error.{error_of_fault, may_retry}
 use Rattle.relay_tasks.specs.declared.Error.{Error}
@@ -17,7 +18,6 @@ use Rattle.relay_session.specs.declared.session.HttpSession.{HttpSession}
 use Rattle.relay_hooks.specs.Call.{only}
 use Rattle.relay_hooks.specs.Standing.{Standing}
 use Rattle.relay_phases.specs.Order.{Station}
-use Rattle.relay_phases.specs.Turns.{QueuesNothing}
 use Rattle.relay_trying.specs.Trying.{CallsHook}
 use Rattle.relay_attempt.specs.Passed.{Passed}
 use Rattle.relay_attempt.specs.Order as exchange
@@ -274,15 +274,15 @@ module _ {L M K C : Type 0} (state : L → LinkState) (start_at : L → LinkStar
               (not_connected context' session' stays over)
         ])
 
--- what the turn moved: another attempt follows, or its client is to be answered
+-- what the turn moved: another attempt follows, or the client is to be answered
 pub refused_moved : {L C : Type 0} (state : L → LinkState) (start_at : L → LinkStart) (w x : World)
     (context context' : C) (session session' : Box HttpSession) (tries attempts : List AttemptRecord)
     (a : AttemptRecord) (e : Error) (next : Phase L C) (did : RunStep) → did ≡ step.Moved
     → attempts ≡ tries ++ a ∷ []
     → (next ≡ Connect context' session' attempts) ⊎ (next ≡ Unlinked context' session' attempts e)
     → HasCause state start_at w x (Connect context session tries) next did
-refused_moved {L = L} {C = C} state start_at w x context context' session session' tries attempts a e next did moved
-    are follows =
+refused_moved {L = L} {C = C} state start_at w x context context' session session' tries attempts
+    a e next did moved are follows =
     subst (λ (k : RunStep). HasCause state start_at w x (Connect context session tries) next k)
     (sym moved)
     (inr (elim follows [

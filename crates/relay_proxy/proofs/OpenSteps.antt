@@ -209,8 +209,8 @@ module _ {M K X : Type 0} (allows : Standing → LogEntry → Type 0) (c d : Cal
         ∙ ap (λ (l : List HttpTask). l ++ (t.e.wrote ++ [])) none
         ∙ append-nil t.e.wrote
 
--- a call that queued nothing leaves a request that wants a link as it stood, with the attempts that the
--- log tells then
+-- a call that queued nothing leaves a request that wants a link as it stood, with the attempts that
+-- the log tells then
 abbrev pub stays_with : {M K X : Type 0} (allows : Standing → LogEntry → Type 0) (c d : Calls M K X)
     (client left : HttpSession) (mark behind : ℕ) (which : Hook) (from to : Station)
     → Turns allows which from to QueuesNothing (seen_with c client) mark (seen_with d left) behind

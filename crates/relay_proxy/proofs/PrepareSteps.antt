@@ -78,8 +78,8 @@ use Rattle.relay_proxy.proofs.TreatLemmas.{unended_more, untreated_more}
 
 -- ---- the calls
 
--- a hook that neither names a peer nor is told of a link that was refused leaves the peer that the log
--- tells, and the attempts
+-- a hook that neither names a peer nor is told of a link that was refused leaves the peer that the
+-- log tells, and the attempts
 pub peers_stay : {M K X : Type 0} (allows : Standing → LogEntry → Type 0) (c d : Calls M K X)
     (client left : HttpSession) (mark behind : ℕ) (which : Hook) (from to : Station)
     → same_hook hook.UpstreamPeer which ≡ false → same_hook hook.FailToConnect which ≡ false

@@ -95,7 +95,8 @@ took_link had all held items told_before told_after before after same has calm f
 -- it refused one, with a fault that was the first of them or came behind the last
 pub took_fault : (had all : List Fault) (held : List (Option LinkItems)) (fault : Fault)
     (told_before told_after : Option (List Fault)) (before after : Option (List Offer))
-    → all ≡ had ++ fault ∷ [] → held ≡ [] → Gains told_before (fault ∷ []) told_after → Refuses before fault after
+    → all ≡ had ++ fault ∷ [] → held ≡ [] → Gains told_before (fault ∷ []) told_after
+    → Refuses before fault after
     → TakesAfter had all held told_before told_after before after
 took_fault had all held fault told_before told_after before after same none told foretold = record {
   faults = fault ∷ [];

@@ -181,7 +181,7 @@ pub(crate) fn closed<L, C>(link: L, lease: Lease, keep: bool, outcome: Outcome) 
     }
 }
 
-/// Begins the attempt's exchange over its link, with the head that is sent, whose body has a framing.
+/// Begins the attempt's exchange over its link, with the head that is sent. Its body has a framing.
 fn begin<L: ByteLink, C: Drop>(
     alloc: Global,
     context: C,

@@ -1,5 +1,5 @@
--- The attempt is recorded with its error as it was treated, and another follows, or its client is to
--- be answered; or memory was wanted.
+-- The attempt is recorded with its error as it was treated, and another follows, or its client is
+-- to be answered; or memory was wanted.
 use Rattle.std.proofs.Common.{refl, subst}
 use Rattle.relay_phases.specs.Order.{named}
 use Rattle.relay_trying.specs.Trying.{may_follow, treated_at}
@@ -21,8 +21,9 @@ returns-in-Ok-clause-run g c = λ s p w failed limit fits rose kind o was same r
     c.args.calls.now c.treat_unlinked.new.calls
     (g.SV.ProxyHttp.mark_of c.args.app.now c.args.context)
     (g.SV.ProxyHttp.mark_of c.args.app.now c.treat_unlinked.new.context) s p w failed c.args.most
-    c.args.context c.args.session c.treat_unlinked.new.client c.args.lacking.room.items.items c.record-attempts.result
-    named (treated_at (may_follow c.in-Ok.treated (seen_with c.args.calls.now c.args.session.value)))
+    c.args.context c.args.session c.treat_unlinked.new.client
+    c.args.lacking.room.items.items c.record-attempts.result named
+    (treated_at (may_follow c.in-Ok.treated (seen_with c.args.calls.now c.args.session.value)))
     c.args.lacking.peer c.args.lacking.recorded c.args.lacking.fault c.of_fault-raised.result
     c.in-Ok.treated c.into_up-error.result limit fits rose kind
     (subst (λ (a : At _ _). TellsPeer a (log_of c.args.calls.now)) was o.named) same

@@ -16,8 +16,8 @@ returns-in-Ok-clause-run g c = λ s p w run sends.
 -- its head has a framing, so it is not begun for want of memory alone
 pub unbegun-requires : goal.unbegun-requires
 unbegun-requires g c =
-    memory_alone c.args.head _ (record { link = c.in-Err.link; why = c.in-Err.why }) refl
-    c.in-Err.ensures.refused c.in-Err.ensures.causes c.requires
+    memory_alone c.args.head _ c.in-Err.field-0 refl c.in-Err.ensures.refused
+    c.in-Err.ensures.causes c.requires
 
 -- an exchange that was not begun gives its link back
 pub returns-in-Err-clause-run : goal.returns-in-Err-clause-run
