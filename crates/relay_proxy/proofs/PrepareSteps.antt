@@ -8,7 +8,7 @@
 --   begun .. not_begun         its exchange
 use Rattle.std.proofs.Common.{◌≡◌, ℕ, ◌<◌, Bool, false, true, List, [], ◌++◌, length, Option, Some, None, refl, sym, ap, subst, ◌∙◌, inl, inr, arith, true≢false}
 use Rattle.std.specs.Global.{Box}
-use Rattle.std.specs.Prelude.{IsTrue, Result, Ok, Err}
+use Rattle.std.specs.Prelude.{◌↔◌, IsSome, IsTrue, Result, Ok, Err}
 use Rattle.relay_tasks.specs.declared.error.Error.{Error}
 use Rattle.relay_tasks.specs.declared.error.ErrorSource.TheVariants.{Internal}
 use Rattle.relay_tasks.specs.declared.error.Fail.{Fail}
@@ -45,11 +45,12 @@ use Rattle.relay_core.specs.Past.{Origin}
 use Rattle.relay_attempt.specs.Exchange.{IsUnderWay, UpHolds}
 use Rattle.relay_attempt.specs.Passed.{Passed}
 use Rattle.relay_attempt.specs.declared.h1_exchange.H1Exchange.{H1Exchange}
-use Rattle.relay_attempt.specs.Head.{link_of}
+use Rattle.relay_attempt.specs.declared.h1_exchange.Unbegun.{Unbegun}
+use Rattle.relay_attempt.specs.Head.{IsRefusedFor, link_of}
 use Rattle.relay_proxy.specs.Calls.{CountsCalls, GoesOn, IsBreaking, IsLogged, IsOpening, IsRelayingCalls, IsUnended, TellsPeer, is_before, log_of, seen_with, station_at, treated_at}
 use Rattle.relay_proxy.specs.Named.{IsNamed}
 use Rattle.relay_proxy.specs.Preparing.{FiltersReady, MakesHead, Prepares, Settles, Unprepared}
-use Rattle.relay_proxy.specs.Sent.{Filters, Sends, RefusesToSend, SettlesFramed, asked_in, client_in, client_of}
+use Rattle.relay_proxy.specs.Sent.{Filters, Sends, RefusesToSend, SettlesFramed, asked_in, client_in, client_of, unframed}
 use Rattle.relay_proxy.specs.Endings.{IsInOrder, EndsLinked}
 use Rattle.relay_proxy.specs.Tries.{AreTries, tries_in}
 use Rattle.relay_proxy.specs.Passed.{World, Start, begins_end, opened_to, origin_of, TellsClient, IsUnsent, IsUntouched}
@@ -670,6 +671,23 @@ module _ {M K X : Type 0} (allows : Standing → LogEntry → Type 0) (c d : Cal
         one_called c d work (omega (arith, none)) f.call.turn.e f.call.turn.calls.log
 
 -- ---- the exchange
+
+-- an exchange whose head has a framing is not begun for want of memory alone
+pub memory_alone : {L : Type 0} (head : RequestHead) (result : Result (H1Exchange L) (Unbegun L))
+    (left : Unbegun L) → result ≡ Err left
+    → (IsRefusedFor result (fail.Error unframed) ↔ (request_framing head ≡ None))
+    → IsMemoryOr unframed left.why → IsSome (request_framing head) → left.why ≡ fail.OutOfMemory
+memory_alone head result left is refused causes framed = by left.why refl causes
+  where
+    unfounded : (found : Option Framing) → IsSome found → found ≡ None → ⊥
+    unfounded None some none = true≢false (sym some)
+    unfounded (Some framing) some none = cc
+
+    by : (why : Fail) → left.why ≡ why → IsMemoryOr unframed why → left.why ≡ fail.OutOfMemory
+    by fail.OutOfMemory same cause = same
+    by (fail.Error e) same cause =
+        absurd (unfounded (request_framing head) framed
+        (refused.0 (left, is, same ∙ ap (λ (x : Error). fail.Error x) cause)))
 
 module _ {L : Type 0} (state : L → LinkState) (start_at : L → LinkStart) where
   -- an exchange that is under way is over a link that tells what passed

@@ -56,7 +56,7 @@ module _ {C M K : Type 0} (allows : Standing → LogEntry → Type 0) (mark_of :
     (mark_of context) (seen_with d left) (mark_of context') treated)
   where
     -- where the hooks stand behind the call
-    to : Station
+    abbrev to : Station
     to = leads.treated_at (may_follow treated (seen_with c client))
 
     -- the calls so far lead there

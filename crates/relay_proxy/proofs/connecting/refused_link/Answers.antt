@@ -1,7 +1,9 @@
 -- The attempt is recorded with its error as it was treated, and another follows, or its client is to
 -- be answered; or memory was wanted.
 use Rattle.std.proofs.Common.{refl, subst}
-use Rattle.relay_proxy.specs.Calls.{TellsPeer, log_of}
+use Rattle.relay_phases.specs.Order.{named}
+use Rattle.relay_trying.specs.Trying.{may_follow, treated_at}
+use Rattle.relay_proxy.specs.Calls.{TellsPeer, allowed_by, log_of, seen_with}
 use Rattle.relay_proxy.specs.declared.calls.At.{At}
 use Rattle.relay_proxy.proofs.CallLemmas.{logged_same}
 use Rattle.relay_proxy.proofs.ConnectSteps.{not_told, refused_moved, refused_on}
@@ -14,9 +16,13 @@ use Rattle.relay_proxy.proofs.connecting.refused_link.Goals as goal
 pub returns-in-Ok-clause-run : goal.returns-in-Ok-clause-run
 returns-in-Ok-clause-run g c = λ s p w failed limit fits rose kind o was same run.
     let t = rw c.deref_mut.ensures.value at c.in-Ok.ensures.treats in
-    refused_on g.L.ByteLink.state g.L.ByteLink.start _ c.args.calls.now
-    c.treat_unlinked.new.calls _ _ s p w failed c.args.most c.args.context c.args.session
-    c.treat_unlinked.new.client c.args.lacking.room.items.items c.record-attempts.result _ _
+    refused_on g.L.ByteLink.state g.L.ByteLink.start
+    (allowed_by (g.SV.ProxyHttp.allows c.args.app.now) g.SV.Modules.HttpModule.allows)
+    c.args.calls.now c.treat_unlinked.new.calls
+    (g.SV.ProxyHttp.mark_of c.args.app.now c.args.context)
+    (g.SV.ProxyHttp.mark_of c.args.app.now c.treat_unlinked.new.context) s p w failed c.args.most
+    c.args.context c.args.session c.treat_unlinked.new.client c.args.lacking.room.items.items c.record-attempts.result
+    named (treated_at (may_follow c.in-Ok.treated (seen_with c.args.calls.now c.args.session.value)))
     c.args.lacking.peer c.args.lacking.recorded c.args.lacking.fault c.of_fault-raised.result
     c.in-Ok.treated c.into_up-error.result limit fits rose kind
     (subst (λ (a : At _ _). TellsPeer a (log_of c.args.calls.now)) was o.named) same
