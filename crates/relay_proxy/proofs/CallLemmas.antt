@@ -5,8 +5,7 @@
 --   unopened_calls, begun_exchange  a turn that makes no call leaves the calls so far
 --   relaying_calls                 and so does one of an exchange
 --   settled_calls                  and so does the settling of a phase
-use Rattle.std.specs.Global.{Box}
-use Rattle.std.proofs.Common.{◌≡◌, ℕ, ◌+◌, ◌≤◌, Bool, true, false, ◌&&◌, List, [], ◌∷◌, ◌++◌, length, length-append, append-nil, arith, Option, None, Some, refl, sym, ap, subst, ◌∙◌, true≢false, inl, inr}
+use Rattle.std.proofs.Common.{◌≡◌, ℕ, ◌+◌, ◌≤◌, Bool, true, false, ◌&&◌, List, [], ◌∷◌, ◌++◌, length, length-append, append-nil, arith, Option, None, Some, refl, sym, ap, subst, ◌∙◌, true≢false}
 use Rattle.std.proofs.lemmas.List.Folds.{list_any-append}
 use Rattle.std.specs.Prelude.{◌==◌, IsTrue, if◌then◌else◌, unwrap_or}
 use Rattle.relay_tasks.specs.Head.{RequestHead, new_request}
@@ -17,7 +16,6 @@ use Rattle.relay_tasks.specs.declared.hook.Hook.{Hook}
 use Rattle.relay_tasks.specs.declared.hook.Hook.TheVariants as hook
 use Rattle.relay_tasks.specs.declared.log.LogEntry.{LogEntry}
 use Rattle.relay_tasks.specs.declared.task.HttpTask.{HttpTask}
-use Rattle.relay_links.specs.Link.{LinkState, LinkStart}
 use Rattle.relay_links.specs.declared.Returned.{Returned}
 use Rattle.relay_session.specs.Reading.{head_of}
 use Rattle.relay_session.specs.Response.{has_head}
@@ -43,19 +41,14 @@ use Rattle.relay_opening.specs.declared.place.Place.TheVariants as place
 use Rattle.relay_trying.specs.Trying as leads
 use Rattle.relay_trying.specs.Trying.{Treats, may_break, may_follow}
 use Rattle.relay_closing.specs.Place.{may_fail}
-use Rattle.relay_proxy.specs.Bound.{CountsAnswer, CountsCall, CountsHead, CountsTreat}
-use Rattle.relay_proxy.specs.Calls.{BeginsCalls, BreaksAt, CallsSoFar, CountsCalls, EndsBy, GoesOn, HasBegun, HasCome, IsBreaking, IsLogged, IsOpening, IsOwing, IsRelayingCalls, IsUncalled, IsUncalledEnd, IsUncalledFor, IsUnended, TellsPeer, is_calling, log_of, seen_with, station_at, treated_at}
+use Rattle.relay_proxy.specs.Calls.{BeginsCalls, BreaksAt, CallsSoFar, CountsCalls, GoesOn, HasBegun, HasCome, IsBreaking, IsLogged, IsOpening, IsOwing, IsRelayingCalls, IsUncalled, IsUncalledEnd, IsUncalledFor, IsUnended, TellsPeer, is_calling, log_of, seen_with, station_at, treated_at}
 use Rattle.relay_proxy.specs.Closing.{Settles}
 use Rattle.relay_proxy.specs.Passed.{begins_end}
-use Rattle.relay_proxy.specs.Relaying.{is_closing, is_relaying}
 use Rattle.relay_proxy.specs.Sent.{IsTreated, IsUntreated, is_of}
-use Rattle.relay_proxy.specs.Tries.{tries_in}
-use Rattle.relay_proxy.specs.Turn.{is_connecting, links_held}
 use Rattle.relay_proxy.specs.declared.calls.At.{At}
 use Rattle.relay_proxy.specs.declared.calls.At.TheVariants as at
 use Rattle.relay_proxy.specs.declared.calls.Calls.{Calls}
 use Rattle.relay_proxy.specs.declared.machine.Attempt.{Attempt}
-use Rattle.relay_proxy.specs.declared.machine.Lease.{Lease}
 use Rattle.relay_proxy.specs.declared.machine.Phase.{Phase}
 use Rattle.relay_proxy.specs.declared.outcome.Outcome.{Outcome}
 use Rattle.relay_proxy.specs.declared.outcome.Outcome.TheVariants as outcome
