@@ -33,7 +33,7 @@ use Rattle.relay_valid.specs.Valid.{IsValid}
 use Rattle.relay_valid.proofs.ValidLemmas.{never_fails}
 use Rattle.relay_proxy.specs.Ahead.{IsOwedAhead}
 use Rattle.relay_proxy.specs.Answer.{owed_text, past_at, WaitsOf}
-use Rattle.relay_proxy.specs.Endings.{IsInOrder, IsGiven, IsGivenAhead, EndsAhead, IsPartRefused, FailsToWrite, IsFailedAttempt, IsUnsentAttempt, IsHalfRefused, IsPart, HasFailed, Misses, owed_by, EndsWith}
+use Rattle.relay_proxy.specs.Endings.{IsInOrder, IsGiven, IsGivenAhead, AttemptsFailed, EndsAhead, IsPartAhead, IsPartRefused, FailsToWrite, IsFailedAttempt, IsUnsentAttempt, IsHalfRefused, IsPart, HasFailed, Misses, owed_by, EndsWith}
 use Rattle.relay_proxy.specs.Owed.{Owes, HasAttempts, IsAnswering, outcome_owed, outcome_failed}
 use Rattle.relay_proxy.specs.Passed.{answered, World, Start, origin_of, asked, TellsClient}
 use Rattle.relay_proxy.specs.Phases.{PhaseHolds, RunSoFar}
@@ -278,23 +278,25 @@ module _ {L : Type 0} (state : L → LinkState) (start_at : L → LinkStart) whe
     record { got = owes.1.got; sent = owes.1.sent },
     owes.2,
   )
-  owes_on s p written w x [] (Served e) text to same owes = (
-    record {
-      fault = owes.0.fault;
-      kind = owes.0.kind;
-      error = owes.0.error;
-      rose = rw same owes.0.rose;
-      head = owes.0.head;
+  owes_on s p written w x [] (Served e) text to same owes = record {
+    unconnected = record {
+      refused = owes.unconnected.refused;
+      rose = rw same owes.unconnected.rose;
+      head = owes.unconnected.head;
       accepted = record {
-        framing = owes.0.accepted.framing;
-        len = owes.0.accepted.len;
-        has = owes.0.accepted.has;
-        relayable = owes.0.accepted.relayable;
+        framing = owes.unconnected.accepted.framing;
+        len = owes.unconnected.accepted.len;
+        has = owes.unconnected.accepted.has;
+        relayable = owes.unconnected.accepted.relayable;
       };
-      unsent = record { got = owes.0.unsent.got; sent = owes.0.unsent.sent };
-    },
-    owes.1,
-  )
+      unsent = record {
+        got = owes.unconnected.unsent.got;
+        sent = owes.unconnected.unsent.sent;
+      };
+    };
+    told = owes.told;
+    text_is = owes.text_is;
+  }
   owes_on s p written w x (r ∷ own) (Refused error) text to same owes = absurd owes
   owes_on s p written w x (r ∷ own) (Ahead why) text to same owes = absurd owes
   owes_on s p written w x (r ∷ own) (Served e) text to same owes =
@@ -330,8 +332,10 @@ module _ {L : Type 0} (state : L → LinkState) (start_at : L → LinkStart) whe
   owes_order s p w [] (Ahead why) text owes front =
       IsInOrder.is_ahead why text owes.0 front owes.1.sent
   owes_order s p w [] (Served e) text owes front =
-      IsInOrder.is_unlinked owes.0.head owes.0.accepted
-      (subst (λ (t : List ℕ). IsFrontOf p.written t) owes.1 front) owes.0.unsent.sent
+      IsInOrder.is_unlinked owes.unconnected.head e owes.unconnected.accepted
+      owes.unconnected.refused owes.told
+      (subst (λ (t : List ℕ). IsFrontOf p.written t) owes.text_is front)
+      owes.unconnected.unsent.sent
   owes_order s p w (r ∷ own) (Refused error) text owes front = absurd owes
   owes_order s p w (r ∷ own) (Ahead why) text owes front = absurd owes
   owes_order s p w (r ∷ own) (Served e) text (Misses.in_exchange f is kept) front =
@@ -350,8 +354,8 @@ module _ {L : Type 0} (state : L → LinkState) (start_at : L → LinkStart) whe
       let one = owed_head why text owes.0 in
       HasRequest-IsOpen (asked s p) one.0 one.1.framing one.1.len one.1.has open_head
   owes_open s p w [] (Served e) text owes open_head =
-      HasRequest-IsOpen (asked s p) owes.0.head owes.0.accepted.framing owes.0.accepted.len
-      owes.0.accepted.has open_head
+      HasRequest-IsOpen (asked s p) owes.unconnected.head owes.unconnected.accepted.framing
+      owes.unconnected.accepted.len owes.unconnected.accepted.has open_head
   owes_open s p w (r ∷ own) (Refused error) text owes open_head = absurd owes
   owes_open s p w (r ∷ own) (Ahead why) text owes open_head = absurd owes
   owes_open s p w (r ∷ own) (Served e) text (Misses.in_exchange f is kept) open_head =
@@ -368,16 +372,8 @@ module _ {L : Type 0} (state : L → LinkState) (start_at : L → LinkStart) whe
       → Owes state start_at s p w own (Served e) text → IsGiven s p w text
       → HasAttempts state start_at s p own (Served e) attempts
       → EndsWith state start_at s p w own attempts (outcome.Served (Some e) false)
-  ends_served s p w [] e text attempts owes given made = (
-    (
-      inl (record {
-        unconnected = owes.0;
-        answered = subst (λ (t : List ℕ). IsGiven s p w t) owes.1 given;
-      }),
-      refl,
-    ),
-    inl made,
-  )
+  ends_served s p w [] e text attempts owes given made =
+      ((inl (record { text = text; owed = owes; given = given }), refl), AttemptsFailed.unlinked made)
   ends_served s p w (r ∷ []) e text attempts owes given made = record {
     tells = made.tells;
     peer = made.peer;
@@ -411,11 +407,13 @@ module _ {L : Type 0} (state : L → LinkState) (start_at : L → LinkStart) whe
       → Owes state start_at s p w own (Ahead why) text → IsGivenAhead s p w why text told
       → HasAttempts state start_at s p own (Ahead why) attempts
       → EndsWith state start_at s p w own attempts (outcome.Served told false)
-  ends_ahead s p w [] why None text attempts owes given made =
-      ((ended_ahead s p w why None text owes given, refl), made)
+  unfolding ended_ahead
+  ends_ahead s p w [] None None text attempts owes given made =
+      ((ended_ahead s p w None None text owes given, refl), made)
+  ends_ahead s p w [] (Some e) None text attempts owes given made = absurd (cc given.0)
   ends_ahead s p w [] why (Some e) text attempts owes given made =
       let ends = ended_ahead s p w why (Some e) text owes given in
-      ((inr ends, refl), inr (made, ends))
+      ((inr ends, refl), AttemptsFailed.ahead ends made)
   ends_ahead s p w (r ∷ own) why told text attempts owes given made = absurd owes
 
   -- the request was not brought to an end, and a part was written
@@ -426,19 +424,22 @@ module _ {L : Type 0} (state : L → LinkState) (start_at : L → LinkStart) whe
       → EndsWith state start_at s p w own attempts outcome.TurnLimit
       × EndsWith state start_at s p w own attempts outcome.OutOfMemory
   ends_part s p w [] (Refused error) text attempts owes part made =
-      let some : IsPartRefused s p = inr (inl (text, error, owes.0, part)) in
-      ((owes.1, inl (made, some)), (owes.1, inl (made, some)))
+      let some : IsPartRefused s p = inr (text, error, owes.0, part) in
+      ((owes.1, inl (made, some)), (owes.1, inl (inl (made, some))))
   ends_part s p w [] (Ahead why) text attempts owes part made =
-      let some : IsPartRefused s p = inr (inr (why, text, owes.0, part)) in
-      ((owes.1, inl (made, some)), (owes.1, inl (made, some)))
+      let some : IsPartAhead s p attempts =
+      record { why = why; text = text; owed = owes.0; part = part; made = made } in
+      ((owes.1, inr (inr (inl some))), (owes.1, inl (inr (inr (inl some)))))
   ends_part s p w [] (Served e) text attempts owes part made =
       let half : IsHalfRefused s p w attempts = record {
         e = e;
-        unconnected = owes.0;
-        part = subst (λ (t : List ℕ). IsFrontOf p.written t) owes.1 part;
+        unconnected = owes.unconnected;
         made = made;
-      } in
-      ((owes.0.unsent, inr (inr half)), (owes.0.unsent, inr (inr half)))
+        part = inr (owes.told, subst (λ (t : List ℕ). IsFrontOf p.written t) owes.text_is part);
+      } in (
+        (owes.unconnected.unsent, inr (inr (inr half))),
+        (owes.unconnected.unsent, inl (inr (inr (inr half)))),
+      )
   ends_part s p w (r ∷ []) (Refused error) text attempts owes part made = absurd made
   ends_part s p w (r ∷ []) (Ahead why) text attempts owes part made = absurd made
   ends_part s p w (r ∷ []) (Served e) text attempts owes part made = (

@@ -5,7 +5,8 @@
 --   head_bounds, link_bounds      a turn that reads the head, and one that asks for a link
 --   relay_moved, relay_waited, relay_finished, relay_failed    a turn of an exchange
 --   answer_bounds                 a turn that writes an answer
---   head_turn_bounds, link_turn_bounds, relay_turn_bounds   the same, over links handed back
+--   head_turn_bounds, link_turn_bounds, unlinked_turn_bounds, relay_turn_bounds
+--                                 the same, over links handed back
 --   open_counts                   a phase none of whose links is to be handed back
 --   within_link                   what was counted of an attempt that is given up
 use Rattle.std.specs.Global.{Box}
@@ -146,6 +147,7 @@ module _ {L C : Type 0} (state : L → LinkState) (start_at : L → LinkStart) w
       → PhaseCounts state start_at tasks ends s client ahead own next
   open_counts tasks ends s client ahead own ReadHead shut counts = counts
   open_counts tasks ends s client ahead own (Connect context session tries) shut counts = counts
+  open_counts tasks ends s client ahead own (Unlinked context session attempts e) shut counts = counts
   open_counts tasks ends s client ahead own (Prepare context session link lease) shut counts = counts
   open_counts tasks ends s client ahead own (Relay a) shut counts = counts
   open_counts tasks ends s client ahead own (Broken context session link lease keep e) shut counts =
@@ -188,6 +190,8 @@ module _ {L C : Type 0} (state : L → LinkState) (start_at : L → LinkStart) w
     omega (arith, counts.0, had.0),
     omega (arith, counts.1, had.1, as_many counts.2),
   )
+  head_bounds s p w (Unlinked context session attempts e) work tasks ends run counts had =
+      absurd counts
   head_bounds s p w (Prepare context session link lease) work tasks ends run counts had =
       absurd counts
   head_bounds s p w (Relay a) work tasks ends run counts had = absurd counts
@@ -220,6 +224,10 @@ module _ {L C : Type 0} (state : L → LinkState) (start_at : L → LinkStart) w
       next
   link_bounds s p w ReadHead work before tasks ends run counts had = absurd counts
   link_bounds s p w (Connect context session tries) work before tasks ends run counts had = (
+    omega (arith, counts.0, had.0),
+    omega (arith, counts.1, counts.2, had.1),
+  )
+  link_bounds s p w (Unlinked context session attempts e) work before tasks ends run counts had = (
     omega (arith, counts.0, had.0),
     omega (arith, counts.1, counts.2, had.1),
   )
@@ -273,6 +281,8 @@ module _ {L C : Type 0} (state : L → LinkState) (start_at : L → LinkStart) w
   send_bounds s p w ReadHead work before tasks ends run counts had = absurd counts
   send_bounds s p w (Connect context session tries) work before tasks ends run counts had =
       absurd counts
+  send_bounds s p w (Unlinked context session attempts e) work before tasks ends run counts had =
+      absurd counts
   send_bounds s p w (Prepare context session link lease) work before tasks ends run counts had =
       absurd counts
   send_bounds s p w (Relay a) work before tasks ends run counts had = record {
@@ -319,6 +329,8 @@ module _ {L C : Type 0} (state : L → LinkState) (start_at : L → LinkStart) w
     omega (arith, counts.0, had.0),
     omega (arith, counts.1, as_many counts.2, had.1),
   )
+  call_bounds s p w (Unlinked context session attempts e) work before tasks ends run counts had =
+      absurd counts
   call_bounds s p w (Prepare context session link lease) work before tasks ends run counts had =
       absurd counts
   call_bounds s p w (Relay a) work before tasks ends run counts had = absurd counts
@@ -359,6 +371,8 @@ module _ {L C : Type 0} (state : L → LinkState) (start_at : L → LinkStart) w
       absurd counts
   treat_bounds s these those client ahead own link lease (Connect context session tries) work tasks
       ends counts leaves had = absurd counts
+  treat_bounds s these those client ahead own link lease (Unlinked context session attempts e) work
+      tasks ends counts leaves had = absurd counts
   treat_bounds s these those client ahead own link lease (Prepare context session l by) work tasks
       ends counts leaves had = absurd counts
   treat_bounds s these those client ahead own link lease (Relay a) work tasks ends counts leaves had
@@ -420,6 +434,8 @@ module _ {L C : Type 0} (state : L → LinkState) (start_at : L → LinkStart) w
   answer_bounds s client client' ahead own ReadHead work tasks ends same counts attempts is had =
       absurd counts
   answer_bounds s client client' ahead own (Connect context session tries) work tasks ends same
+      counts attempts is had = absurd counts
+  answer_bounds s client client' ahead own (Unlinked context session made e) work tasks ends same
       counts attempts is had = absurd counts
   answer_bounds s client client' ahead own (Prepare context session link lease) work tasks ends same
       counts attempts is had = absurd counts
@@ -537,6 +553,7 @@ module _ {L C : Type 0} (state : L → LinkState) (start_at : L → LinkStart) w
           → TurnedCounts state start_at (0 + tasks) (1 + ends) s client' left [] settled
       over_by w ReadHead leaves = absurd leaves
       over_by w (Connect context session tries) leaves = absurd leaves
+      over_by w (Unlinked context session attempts e) leaves = absurd leaves
       over_by w (Prepare context session link lease) leaves = absurd leaves
       over_by w (Relay a) leaves = absurd leaves
       over_by w (Broken context session link lease keep e) leaves = record {
@@ -622,6 +639,25 @@ module _ {L C : Type 0} (state : L → LinkState) (start_at : L → LinkStart) w
       had =
       absurd run.holds
 
+  -- one that has the error of the last attempt answered, which was given no link
+  pub unlinked_turn_bounds : (s s' : Start) (p : Passed) (w x : World) (own : List (Returned L))
+      (context : C) (session : Box HttpSession) (attempts : List AttemptRecord) (error : Error)
+      (next : Phase L C) (work : Work) (tasks ends : ℕ)
+      → RunSoFar state start_at s p w own (Unlinked context session attempts error)
+      → (RunSoFar state start_at s p w [] (Unlinked context session attempts error)
+      → Advances state start_at s' x next)
+      → CountsCall attempts next work
+      → PhaseCounts state start_at tasks ends s w.client w.ahead own
+      (Unlinked context session attempts error)
+      → TurnedCounts state start_at (work.moved + tasks) (work.ended + ends) s' x.client x.ahead own
+      next
+  unlinked_turn_bounds s s' p w x [] context session attempts error next work tasks ends run turn
+      counts had =
+      let on = turn run in
+      call_bounds s' on.passed x next work attempts tasks ends on.run counts had
+  unlinked_turn_bounds s s' p w x (r ∷ own) context session attempts error next work tasks ends run
+      turn counts had = absurd run.holds
+
   -- one that makes the head of an attempt
   pub send_turn_bounds : (s s' : Start) (p : Passed) (w x : World) (own : List (Returned L))
       (context : C) (session : Box HttpSession) (link : L) (lease : Lease) (next : Phase L C)
@@ -652,6 +688,8 @@ module _ {L C : Type 0} (state : L → LinkState) (start_at : L → LinkStart) w
   relay_turn_bounds s p w x own ReadHead next tasks ends a b is run turn had =
       absurd (true≢false (sym is))
   relay_turn_bounds s p w x own (Connect context session tries) next tasks ends a b is run turn
+      had = absurd (true≢false (sym is))
+  relay_turn_bounds s p w x own (Unlinked context session attempts e) next tasks ends a b is run turn
       had = absurd (true≢false (sym is))
   relay_turn_bounds s p w x own (Prepare context session link lease) next tasks ends a b is run turn
       had = absurd (true≢false (sym is))

@@ -2,11 +2,10 @@
 --
 --   turn_allowed                   what the modules allow in a turn is allowed by modules
 --   breaks_more .. relays_more     an attempt goes out behind a call, or fails
---   unopened_calls .. asked_calls  a turn that makes no call leaves the calls so far
+--   unopened_calls, begun_exchange  a turn that makes no call leaves the calls so far
 --   relaying_calls                 and so does one of an exchange
 --   settled_calls                  and so does the settling of a phase
-use Rattle.std.specs.Global.{Box}
-use Rattle.std.proofs.Common.{◌≡◌, ℕ, ◌+◌, ◌≤◌, Bool, true, false, ◌&&◌, List, [], ◌∷◌, ◌++◌, length, length-append, append-nil, arith, Option, None, Some, refl, sym, ap, subst, ◌∙◌, true≢false, inl, inr}
+use Rattle.std.proofs.Common.{◌≡◌, ℕ, ◌+◌, ◌≤◌, Bool, true, false, ◌&&◌, List, [], ◌∷◌, ◌++◌, length, length-append, append-nil, arith, Option, None, Some, refl, sym, ap, subst, ◌∙◌, true≢false}
 use Rattle.std.proofs.lemmas.List.Folds.{list_any-append}
 use Rattle.std.specs.Prelude.{◌==◌, IsTrue, if◌then◌else◌, unwrap_or}
 use Rattle.relay_tasks.specs.Head.{RequestHead, new_request}
@@ -17,7 +16,6 @@ use Rattle.relay_tasks.specs.declared.hook.Hook.{Hook}
 use Rattle.relay_tasks.specs.declared.hook.Hook.TheVariants as hook
 use Rattle.relay_tasks.specs.declared.log.LogEntry.{LogEntry}
 use Rattle.relay_tasks.specs.declared.task.HttpTask.{HttpTask}
-use Rattle.relay_links.specs.Link.{LinkState, LinkStart}
 use Rattle.relay_links.specs.declared.Returned.{Returned}
 use Rattle.relay_session.specs.Reading.{head_of}
 use Rattle.relay_session.specs.Response.{has_head}
@@ -43,19 +41,14 @@ use Rattle.relay_opening.specs.declared.place.Place.TheVariants as place
 use Rattle.relay_trying.specs.Trying as leads
 use Rattle.relay_trying.specs.Trying.{Treats, may_break, may_follow}
 use Rattle.relay_closing.specs.Place.{may_fail}
-use Rattle.relay_proxy.specs.Bound.{CountsAnswer, CountsCall, CountsHead, CountsTreat}
-use Rattle.relay_proxy.specs.Calls.{BeginsCalls, BreaksAt, CallsSoFar, CountsCalls, EndsBy, GoesOn, HasBegun, HasCome, IsBreaking, IsLogged, IsOpening, IsOwing, IsRelayingCalls, IsUncalled, IsUncalledEnd, IsUncalledFor, IsUnended, TellsPeer, has_peer, is_calling, log_of, seen_with, station_at, treated_at}
+use Rattle.relay_proxy.specs.Calls.{BeginsCalls, BreaksAt, CallsSoFar, CountsCalls, GoesOn, HasBegun, HasCome, IsBreaking, IsLogged, IsOpening, IsOwing, IsRelayingCalls, IsUncalled, IsUncalledEnd, IsUncalledFor, IsUnended, TellsPeer, is_calling, log_of, seen_with, station_at, treated_at}
 use Rattle.relay_proxy.specs.Closing.{Settles}
 use Rattle.relay_proxy.specs.Passed.{begins_end}
-use Rattle.relay_proxy.specs.Relaying.{is_closing, is_relaying}
 use Rattle.relay_proxy.specs.Sent.{IsTreated, IsUntreated, is_of}
-use Rattle.relay_proxy.specs.Tries.{tries_in}
-use Rattle.relay_proxy.specs.Turn.{KeepsAsked, is_connecting, links_held}
 use Rattle.relay_proxy.specs.declared.calls.At.{At}
 use Rattle.relay_proxy.specs.declared.calls.At.TheVariants as at
 use Rattle.relay_proxy.specs.declared.calls.Calls.{Calls}
 use Rattle.relay_proxy.specs.declared.machine.Attempt.{Attempt}
-use Rattle.relay_proxy.specs.declared.machine.Lease.{Lease}
 use Rattle.relay_proxy.specs.declared.machine.Phase.{Phase}
 use Rattle.relay_proxy.specs.declared.outcome.Outcome.{Outcome}
 use Rattle.relay_proxy.specs.declared.outcome.Outcome.TheVariants as outcome
@@ -244,6 +237,8 @@ breaks_untreated : {K X : Type 0} (a : At K X) (log : List LogEntry) (error : Er
 breaks_untreated (at.Kept kept) log error here none may = may
 breaks_untreated (at.Opening there) log error here none may = may
 breaks_untreated (at.Named peer) log error here none may = may
+breaks_untreated (at.Repeatable treated) log error here none may = may
+breaks_untreated at.Warning log error here none may = may
 breaks_untreated at.Linked log error here none may = may
 breaks_untreated (at.Treated treated) log error here none may = cc
 breaks_untreated (at.Closing held there) log error here none may = may
@@ -254,6 +249,8 @@ pub may_treat : {K X : Type 0} (a : At K X) (log : List LogEntry) (error : Error
 may_treat (at.Kept kept) log error here none may = may
 may_treat (at.Opening there) log error here none may = may
 may_treat (at.Named peer) log error here none may = may
+may_treat (at.Repeatable treated) log error here none may = may
+may_treat at.Warning log error here none may = may
 may_treat at.Linked log error here none may = may
 may_treat (at.Treated treated) log error here none may = cc
 may_treat (at.Closing held there) log error here none may = may
@@ -265,6 +262,8 @@ pub was_treated : {K X : Type 0} (a : At K X) (log : List LogEntry) (error treat
 was_treated (at.Kept kept) log error treated here is breaks = cc
 was_treated (at.Opening there) log error treated here is breaks = cc
 was_treated (at.Named peer) log error treated here is breaks = cc
+was_treated (at.Repeatable other) log error treated here is breaks = cc
+was_treated at.Warning log error treated here is breaks = cc
 was_treated at.Linked log error treated here is breaks = cc
 was_treated (at.Treated other) log error treated here is breaks =
     let same : other ≡ treated = cc in
@@ -508,22 +507,12 @@ module _ {C M K : Type 0} (allows : Standing → LogEntry → Type 0) (mark_of :
   uncalled_for calls client (owing.Ahead why) none is = absurd is
   uncalled_for calls client (owing.Served error) none is = absurd is
 
-  -- the connector gave no link to the peer that was named
-  unheard_at : (peer : Peer) (calls : Calls M K C) (client : HttpSession) (e : Error)
-      → calls.at ≡ at.Named peer → IsLogged allows (log_of calls) (station_at calls.at)
-      → EndsBy allows mark_of calls.at calls client (Some e)
-  unheard_at peer calls client e is logged =
-      subst (λ (a : At K C). EndsBy allows mark_of a calls client (Some e)) (sym is) (
-        (station_at calls.at, logged),
-        inr (subst (λ (a : At K C). Accepts station.accepted (log_of calls) (station_at a)) is
-            logged.order),
-      )
-
 module _ {L C M K : Type 0} (allows : Standing → LogEntry → Type 0) (mark_of : C → ℕ) where
   pub unopened_calls : (calls : Calls M K C) (next : Phase L C) → log_of calls ≡ []
       → IsUncalled next → CallsSoFar allows mark_of calls next
   unopened_calls calls ReadHead none is = none
   unopened_calls calls (Connect context session tries) none is = absurd is
+  unopened_calls calls (Unlinked context session attempts error) none is = absurd is
   unopened_calls calls (Prepare context session link lease) none is = absurd is
   unopened_calls calls (Relay a) none is = absurd is
   unopened_calls calls (Broken context session link lease keep error) none is = absurd is
@@ -542,6 +531,8 @@ module _ {L C M K : Type 0} (allows : Standing → LogEntry → Type 0) (mark_of
   begun_exchange calls context session ReadHead begins relays logged = absurd begins
   begun_exchange calls context session (Connect other stays tries) begins relays logged =
       absurd begins
+  begun_exchange calls context session (Unlinked other stays attempts error) begins relays logged =
+      absurd begins
   begun_exchange calls context session (Prepare other stays link lease) begins relays logged =
       absurd begins
   begun_exchange calls context session (Relay a) begins relays logged =
@@ -556,54 +547,6 @@ module _ {L C M K : Type 0} (allows : Standing → LogEntry → Type 0) (mark_of
       absurd begins
   begun_exchange calls context session (Ended outcome attempts) begins relays logged = absurd begins
 
-  -- the connector gave no link, and the calls are those that they were
-  pub asked_calls : (peer : Peer) (calls : Calls M K C) (context : C) (session : Box HttpSession)
-      (tries : List AttemptRecord) (next : Phase L C) (state : L → LinkState)
-      (start_at : L → LinkStart) → calls.at ≡ at.Named peer
-      → KeepsAsked context session next → links_held state start_at next ≡ 0
-      → IsOpening allows mark_of calls context session.value tries
-      → CallsSoFar allows mark_of calls next
-  asked_calls peer calls context session tries ReadHead state start_at over keeps none o = absurd keeps
-  asked_calls peer calls context session tries (Connect other stays more) state start_at over keeps none
-      o =
-      record {
-        first = o.first;
-        mark = o.mark;
-        none = o.none;
-        so_far = subst (λ (c : C). HasCalled allows o.first o.mark station.accepted
-            (station_at calls.at) QueuesNothing (seen_with calls stays.value) (mark_of c))
-            (sym keeps.0)
-            (subst (λ (b : Box HttpSession). HasCalled allows o.first o.mark station.accepted
-            (station_at calls.at) QueuesNothing (seen_with calls b.value) (mark_of context))
-            (sym keeps.1) o.so_far);
-        goes = o.goes;
-        named = o.named;
-        untried = λ is.
-            absurd (true≢false (sym (ap (λ (a : At K C). has_peer a) over) ∙ is));
-        untreated = o.untreated;
-        unanswered = subst (λ (b : Box HttpSession). has_head b.value.writing.place ≡ false)
-            (sym keeps.1) o.unanswered;
-        unended = o.unended;
-      }
-  asked_calls peer calls context session tries (Prepare other stays link lease) state start_at over keeps
-      none o = cc
-  asked_calls peer calls context session tries (Relay a) state start_at over keeps none o = cc
-  asked_calls peer calls context session tries (Broken other stays link lease keep error) state start_at over
-      keeps none o = cc
-  asked_calls peer calls context session tries (Fail link lease keep stays error) state start_at over
-      keeps none o = cc
-  asked_calls peer calls context session tries (Close link lease keep outcome) state start_at over keeps
-      none o = cc
-  asked_calls peer calls context session tries (Answer stays owed attempts) state start_at over keeps
-      none o =
-      subst (λ (k : Owed). IsOwing allows mark_of calls stays.value k) (sym keeps.1)
-      (unheard_at allows mark_of peer calls stays.value keeps.0 over
-      (opening_stands allows mark_of calls context session.value tries o))
-  asked_calls peer calls context session tries (Ended outcome attempts) state start_at over keeps none
-      o =
-      subst (λ (k : Outcome). HasCome allows mark_of calls k) (sym keeps)
-      (opening_logged allows mark_of calls context session.value tries o)
-
   -- the settling of a phase calls no hook
   pub settled_calls : (calls : Calls M K C) (next settled : Phase L C)
       (before after : Option (List (Returned L))) → Settles next before after settled
@@ -611,6 +554,8 @@ module _ {L C M K : Type 0} (allows : Standing → LogEntry → Type 0) (mark_of
   settled_calls calls ReadHead settled before after does so_far =
       subst (λ (k : Phase L C). CallsSoFar allows mark_of calls k) (sym does.0) so_far
   settled_calls calls (Connect context session tries) settled before after does so_far =
+      subst (λ (k : Phase L C). CallsSoFar allows mark_of calls k) (sym does.0) so_far
+  settled_calls calls (Unlinked context session attempts error) settled before after does so_far =
       subst (λ (k : Phase L C). CallsSoFar allows mark_of calls k) (sym does.0) so_far
   settled_calls calls (Prepare context session link lease) settled before after does so_far =
       subst (λ (k : Phase L C). CallsSoFar allows mark_of calls k) (sym does.0) so_far

@@ -1,37 +1,48 @@
--- Turns of the connector that gave no link: it is asked again, or the client is owed an answer.
-use Rattle.std.proofs.Common.{◌≡◌, ◌≢◌, ℕ, ◌≤◌, Bool, false, true, List, [], ◌++◌, None, refl, sym, ap, subst, inl, inr, arith}
+-- Turns of the connector that gave no link: another attempt follows, or the client is to be
+-- answered.
+use Rattle.std.proofs.Common.{◌≡◌, ◌≢◌, ◌⊎◌, ℕ, ◌≤◌, Bool, false, List, [], ◌∷◌, ◌++◌, length, Some, None, refl, sym, ap, subst, ◌∙◌, inl, inr, arith}
 use Rattle.std.specs.Global.{Box}
-use Rattle.relay_tasks.specs.declared.error.Error.{Error}
+use Rattle.relay_tasks.specs.Error.{error_of_fault, may_retry}
+use Rattle.relay_tasks.specs.declared.Error.{Error}
 use Rattle.relay_tasks.specs.declared.error.ErrorSource.TheVariants.{Upstream}
 use Rattle.relay_tasks.specs.declared.Fault.{Fault}
+use Rattle.relay_tasks.specs.declared.Peer.{Peer}
+use Rattle.relay_tasks.specs.declared.hook.Hook.TheVariants as hook
+use Rattle.relay_tasks.specs.declared.log.Item.TheVariants as item
+use Rattle.relay_tasks.specs.declared.log.LogEntry.{LogEntry}
 use Rattle.relay_tasks.specs.Head.{RequestHead}
 use Rattle.relay_links.specs.Connector.{IsConnectFault}
 use Rattle.relay_links.specs.Count.{last_count, Rose}
 use Rattle.relay_links.specs.Link.{LinkState, LinkStart}
-use Rattle.relay_h1.specs.ClientHead.{is_sent_to}
-use Rattle.relay_h1.specs.Wire.{generated}
-use Rattle.relay_session.specs.Generated.{answer_tasks, AnswersText}
-use Rattle.relay_session.specs.Response.{AreQueued}
-use Rattle.relay_session.specs.declared.writing.Outgoing.TheVariants.{Open}
-use Rattle.relay_session.specs.declared.writing.Writing.{Writing}
 use Rattle.relay_session.specs.declared.session.HttpSession.{HttpSession}
+use Rattle.relay_hooks.specs.Call.{only}
+use Rattle.relay_hooks.specs.Standing.{Standing}
+use Rattle.relay_phases.specs.Order.{Station}
+use Rattle.relay_trying.specs.Trying.{CallsHook}
 use Rattle.relay_attempt.specs.Passed.{Passed}
 use Rattle.relay_attempt.specs.Order as exchange
+use Rattle.relay_proxy.specs.Calls.{log_of, seen_with}
 use Rattle.relay_proxy.specs.Relayable.{IsRelayable}
 use Rattle.relay_proxy.specs.Sent.{Sends}
-use Rattle.relay_proxy.specs.Endings.{IsPartRelayed, IsUnconnected}
-use Rattle.relay_proxy.specs.Tries.{AreTries, EndsTrying, fault_error}
-use Rattle.relay_proxy.specs.Passed.{World, Start, origin_of, TellsClient}
-use Rattle.relay_proxy.specs.Phases.{IsConnecting, RunSoFar}
-use Rattle.relay_proxy.specs.Turn.{Advances, world_with}
-use Rattle.relay_proxy.specs.declared.machine.Phase.TheVariants.{Connect, Answer, Ended}
-use Rattle.relay_proxy.specs.declared.owed.Owed.TheVariants.{Served}
+use Rattle.relay_proxy.specs.Endings.{IsInOrder, IsPartRelayed}
+use Rattle.relay_proxy.specs.Named.{IsNamed}
+use Rattle.relay_proxy.specs.Tries.{AreTries, IsRaised, MayTry, Refusal, fault_error, record_of, refusals_in, unlinked_record, upstream_error}
+use Rattle.relay_proxy.specs.Passed.{World, Start, opened_to, origin_of, TellsClient}
+use Rattle.relay_proxy.specs.Phases.{IsConnecting, LacksLink, RunSoFar}
+use Rattle.relay_proxy.specs.Turn.{Advances, HasCause, world_with}
+use Rattle.relay_proxy.specs.Uses.{OwesAnswer}
+use Rattle.relay_proxy.specs.declared.calls.Calls.{Calls}
+use Rattle.relay_proxy.specs.declared.machine.Phase.{Phase}
+use Rattle.relay_proxy.specs.declared.machine.RunStep.{RunStep}
+use Rattle.relay_proxy.specs.declared.machine.RunStep.TheVariants as step
+use Rattle.relay_proxy.specs.declared.machine.Phase.TheVariants.{Connect, Unlinked, Ended}
 use Rattle.relay_proxy.specs.declared.record.AttemptRecord.{AttemptRecord}
 use Rattle.relay_proxy.specs.declared.outcome.Outcome.TheVariants as outcome
-use Rattle.relay_proxy.proofs.AnswerSteps.{answer_on}
-use Rattle.relay_proxy.proofs.HeadSteps.{begun_answer, generated_some}
+use Rattle.relay_proxy.proofs.NamedLemmas.{refusals_one}
+use Rattle.relay_proxy.proofs.OpenSteps.{begins_on, called_accepted, called_tells, called_tries, stays_with}
 use Rattle.relay_peer.proofs.FaultLemmas.{grew_same}
 use Rattle.relay_proxy.proofs.Tells.{Rose-le, client_still}
+use Rattle.relay_proxy.proofs.TryLemmas.{last_one, may_or_not, one_more, raised_so, recorded_so, refused_last}
 
 -- out of memory is no limit of turns
 pub no_limit : outcome.OutOfMemory ≢ outcome.TurnLimit
@@ -63,74 +74,6 @@ part_relayed s p head sent reused link start relayable sends same order = record
 }
 
 module _ {L C : Type 0} (state : L → LinkState) (start_at : L → LinkStart) where
-  -- the connector gave no link
-  unconnected : (s : Start) (p : Passed) (w : World) (failed : ℕ) (context : C)
-      (session : Box HttpSession) (tries : List AttemptRecord) (fault : Fault) (e : Error)
-      → Rose w.connect_faults failed → IsConnectFault fault → e ≡ fault_error Upstream fault
-      → RunSoFar {C = C} state start_at s p w [] (Connect context session tries)
-      → IsUnconnected s p (world_with w.client w.ahead failed) e
-  unconnected s p w failed context session tries fault e rose kind is run = record {
-    fault = fault;
-    kind = kind;
-    error = is;
-    rose = λ below. omega (arith, run.tells.connect_faults, rose below);
-    head = run.holds.head;
-    accepted = run.holds.accepted;
-    unsent = run.holds.unsent;
-  }
-
-  -- it is asked again
-  pub tried_again : (s : Start) (p : Passed) (w : World) (failed : ℕ) (context : C)
-      (session : Box HttpSession) (tries attempts : List AttemptRecord)
-      → w.connect_faults ≤ last_count → Rose w.connect_faults failed → AreTries s attempts
-      → RunSoFar {C = C} state start_at s p w [] (Connect context session tries)
-      → Advances {C = C} state start_at s (world_with w.client w.ahead failed)
-      (Connect context session attempts)
-  tried_again s p w failed context session tries attempts fits rose are run = record {
-    passed = p;
-    run = record {
-      tells = unconnected_tells s p w failed fits rose run.tells;
-      order = run.order;
-      untouched = run.untouched;
-      going = tt;
-      calm = run.calm;
-      holds = record {
-        head = run.holds.head;
-        accepted = run.holds.accepted;
-        is_left = run.holds.is_left;
-        quiet = run.holds.quiet;
-        begins = run.holds.begins;
-        written = run.holds.written;
-        unsent = run.holds.unsent;
-        are_tries = are;
-      };
-    };
-  }
-
-  -- the client is owed an answer for that
-  pub not_connected : (s : Start) (p : Passed) (w : World) (failed : ℕ) (context : C)
-      (session session' : Box HttpSession) (tries : List AttemptRecord) (fault : Fault) (e : Error)
-      (attempts : List AttemptRecord) → w.connect_faults ≤ last_count
-      → Rose w.connect_faults failed → IsConnectFault fault → e ≡ fault_error Upstream fault
-      → EndsTrying s attempts e → session'.value.writing.output ≡ Open (generated 502)
-      → RunSoFar {C = C} state start_at s p w [] (Connect context session tries)
-      → Advances {C = C} state start_at s (world_with w.client w.ahead failed)
-      (Answer session' (Served e) attempts)
-  not_connected s p w failed context session session' tries fault e attempts fits rose kind is made
-      waits run =
-      answer_on state start_at s p (world_with w.client w.ahead failed) [] session' (Served e)
-      attempts (unconnected_tells s p w failed fits rose run.tells) (record {
-        text = generated 502;
-        owes = (unconnected s p w failed context session tries fault e rose kind is run, refl);
-        waits = record {
-          left = generated 502;
-          is_open = waits;
-          some = generated_some 502;
-          joined = ap (λ (xs : List ℕ). xs ++ generated 502) run.holds.written;
-        };
-        made = made;
-      })
-
   -- memory was wanted before the connector was asked
   pub not_asked : (s : Start) (p : Passed) (w : World) (context : C) (session : Box HttpSession)
       (tries attempts : List AttemptRecord) → attempts ≡ tries
@@ -146,55 +89,208 @@ module _ {L C : Type 0} (state : L → LinkState) (start_at : L → LinkStart) w
       calm = tt;
       holds = (
         run.holds.unsent,
-        inr (inl (
+        inl (inr (inl (
           subst (λ (xs : List AttemptRecord). AreTries s xs) (sym same) run.holds.are_tries,
           run.holds.written,
-        )),
+        ))),
       );
     };
   }
 
-  -- memory was wanted for the answer
-  pub not_answered : (s : Start) (p : Passed) (w : World) (failed : ℕ) (context : C)
-      (session : Box HttpSession) (tries : List AttemptRecord) (fault : Fault) (e : Error)
-      (attempts : List AttemptRecord)
-      → w.connect_faults ≤ last_count → Rose w.connect_faults failed → IsConnectFault fault
-      → e ≡ fault_error Upstream fault → EndsTrying s attempts e
-      → RunSoFar {C = C} state start_at s p w [] (Connect context session tries)
-      → Advances {C = C} state start_at s (world_with w.client w.ahead failed)
-      (Ended outcome.OutOfMemory attempts)
-  not_answered s p w failed context session tries fault e attempts fits rose kind is made run =
-      record {
-        passed = p;
-        run = record {
-          tells = unconnected_tells s p w failed fits rose run.tells;
-          order = run.order;
-          untouched = run.untouched;
-          going = no_limit;
-          calm = tt;
-          holds = (
-            run.holds.unsent,
-            inr (inr (record {
-              e = e;
-              unconnected = unconnected s p w failed context session tries fault e rose kind is run;
-              part = record {
-                rest = generated 502;
-                joined = ap (λ (xs : List ℕ). xs ++ generated 502) run.holds.written;
-              };
-              made = made;
-            })),
-          );
-        };
-      }
+-- ---- the connector gave no link
 
--- the session that wants a link has nothing but the answer queued, with a status that goes to each
--- client
-pub connecting_answer : (s : Start) (p : Passed) (w : World) (status : ℕ) (session : HttpSession)
-    (new : Writing) (tries : List AttemptRecord) → IsConnecting s p w session tries
-    → is_sent_to session.writing.request.version status ≡ true
-    → AreQueued session.writing (answer_tasks session.writing.place status) new
-    → AnswersText status session.writing new → new.output ≡ Open (generated status)
-connecting_answer s p w status session new tries connecting sent queued text =
-    begun_answer status session.writing new (connecting.begins connecting.head false).response
-    queued
-    text sent
+module _ {L M K C : Type 0} (state : L → LinkState) (start_at : L → LinkStart) (c d : Calls M K C)
+    (s : Start) (p : Passed) (w : World) (failed : ℕ) (context : C) (session : Box HttpSession)
+    (tries attempts : List AttemptRecord) (fits : w.connect_faults ≤ last_count)
+    (rose : Rose w.connect_faults failed)
+    (run : RunSoFar {C = C} state start_at (opened_to s (log_of c)) p w []
+    (Connect context session tries))
+  where
+    -- what the client's link tells, behind more calls
+    tells_still : TellsClient (opened_to s (log_of d)) p (world_with w.client w.ahead failed)
+    tells_still =
+        called_tells s (log_of c) (log_of d) p (world_with w.client w.ahead failed)
+        (unconnected_tells (opened_to s (log_of c)) p w failed fits rose run.tells)
+
+    -- memory was wanted as the application was to be told so
+    pub not_told : (peer recorded : Peer) (fault : Fault) (e : Error)
+        → log_of d ≡ log_of c → IsNamed (log_of c) peer → recorded ≡ peer → IsConnectFault fault
+        → e ≡ fault_error Upstream fault
+        → attempts ≡ tries ++ unlinked_record recorded fault e ∷ []
+        → Advances {C = C} state start_at (opened_to s (log_of d))
+        (world_with w.client w.ahead failed) (Ended outcome.OutOfMemory attempts)
+    not_told peer recorded fault e log named same kind is are = record {
+      passed = p;
+      run = record {
+        tells = tells_still;
+        order = IsInOrder.is_nothing run.holds.written run.holds.unsent.sent;
+        untouched = run.untouched;
+        going = no_limit;
+        calm = tt;
+        holds = (
+          run.holds.unsent,
+          inr (
+            record {
+              tries = tries;
+              are_tries = called_tries s (log_of c) (log_of d) tries
+                  (ap (λ (l : List LogEntry). refusals_in l) log) run.holds.are_tries;
+              peer = peer;
+              named = subst (λ (l : List LogEntry). IsNamed l peer) (sym log) named;
+              fault = fault;
+              kind = kind;
+              attempts_are = are
+                  ∙ ap (λ (x : Peer). tries ++ unlinked_record x fault e ∷ []) same
+                  ∙ ap (λ (x : Error). tries ++ unlinked_record peer fault x ∷ []) is;
+            },
+            run.holds.written,
+          ),
+        );
+      };
+    }
+
+module _ {L M K C : Type 0} (state : L → LinkState) (start_at : L → LinkStart)
+    (allows : Standing → LogEntry → Type 0) (c d : Calls M K C) (mark behind : ℕ)
+    (s : Start) (p : Passed) (w : World) (failed most : ℕ) (context : C) (session : Box HttpSession)
+    (left : HttpSession) (tries attempts : List AttemptRecord) (from to : Station)
+    (peer recorded : Peer) (fault : Fault) (raised treated e : Error)
+    (limit : s.most ≡ most) (fits : w.connect_faults ≤ last_count)
+    (rose : Rose w.connect_faults failed) (kind : IsConnectFault fault)
+    (named : IsNamed (log_of c) peer) (same : recorded ≡ peer) (is : raised ≡ error_of_fault fault)
+    (made : e ≡ upstream_error treated)
+    (are : attempts ≡ tries ++ unlinked_record recorded fault e ∷ [])
+    (t : CallsHook allows hook.FailToConnect (Some peer) false from to (item.Failure raised)
+    (only (item.Failure treated)) (seen_with c session.value) mark (seen_with d left) behind)
+    (run : RunSoFar {C = C} state start_at (opened_to s (log_of c)) p w []
+    (Connect context session tries))
+  where
+    -- what the call tells of the attempt
+    abbrev refusal : Refusal
+    refusal = record { peer = peer; raised = raised; treated = treated }
+
+    -- the log tells of one more
+    one_refusal : refusals_in (log_of d) ≡ refusals_in (log_of c) ++ refusal ∷ []
+    one_refusal =
+        ap (λ (l : List LogEntry). refusals_in l) t.turn.calls.log
+        ∙ refusals_one (log_of c) t.turn.e peer raised treated named t.turn.hook t.input t.output
+
+    -- and its record is one more
+    one_record : attempts ≡ tries ++ record_of refusal ∷ []
+    one_record =
+        are
+        ∙ ap (λ (a : AttemptRecord). tries ++ a ∷ [])
+        (recorded_so peer recorded fault raised treated e same kind is made)
+
+    -- the application was told of the connector's fault
+    is_raised : IsRaised refusal
+    is_raised = raised_so peer fault raised treated kind is
+
+    -- another attempt follows
+    pub tried_again : (context' : C) (session' : Box HttpSession) → session'.value ≡ left
+        → MayTry most (length attempts) e
+        → Advances {C = C} state start_at (opened_to s (log_of d))
+        (world_with w.client w.ahead failed) (Connect context' session' attempts)
+    tried_again context' session' stays may = record {
+      passed = p;
+      run = record {
+        tells = tells_still state start_at c d s p w failed context session tries attempts fits rose
+            run;
+        order = IsInOrder.is_nothing run.holds.written run.holds.unsent.sent;
+        untouched = run.untouched;
+        going = tt;
+        calm = run.calm;
+        holds = subst (λ (h : HttpSession). IsConnecting (opened_to s (log_of d)) p
+            (world_with w.client w.ahead failed) h attempts) (sym stays) (record {
+              head = k.head;
+              accepted = k.accepted;
+              is_left = k.is_left;
+              quiet = k.quiet;
+              begins = k.begins;
+              written = k.written;
+              unsent = k.unsent;
+              are_tries = k.are_tries;
+            });
+      };
+    }
+      where
+        k : IsConnecting (opened_to s (log_of d)) p w left attempts
+        k = stays_with allows c d session.value left mark behind hook.FailToConnect from to t.turn s p
+            w tries attempts
+            (one_more s most (log_of c) (log_of d) tries attempts refusal limit one_refusal one_record
+            run.holds.are_tries (record {
+              raised = is_raised;
+              again = sym (ap (λ (x : Error). may_retry x.retry) made) ∙ may.0;
+            }) may.1) run.holds
+
+    -- or none, and the client is to be answered
+    pub not_connected : (context' : C) (session' : Box HttpSession) → session'.value ≡ left
+        → (¬ (MayTry most (length attempts) e))
+        → Advances {C = C} state start_at (opened_to s (log_of d))
+        (world_with w.client w.ahead failed) (Unlinked context' session' attempts e)
+    not_connected context' session' stays over = record {
+      passed = p;
+      run = record {
+        tells = tells_still state start_at c d s p w failed context session tries attempts fits rose
+            run;
+        order = IsInOrder.is_nothing run.holds.written run.holds.unsent.sent;
+        untouched = run.untouched;
+        going = tt;
+        calm = run.calm;
+        holds = subst (λ (h : HttpSession). LacksLink (opened_to s (log_of d)) p
+            (world_with w.client w.ahead failed) h attempts e) (sym stays) (record {
+              unconnected = record {
+                refused = refused_last (log_of c) (log_of d) refusal e one_refusal is_raised made;
+                rose = λ below. omega (arith, run.tells.connect_faults, rose below);
+                head = run.holds.head;
+                accepted = called_accepted s (log_of c) (log_of d) p run.holds.head run.holds.accepted;
+                unsent = run.holds.unsent;
+              };
+              made = last_one s most (log_of c) (log_of d) tries attempts refusal e limit one_refusal
+                  one_record run.holds.are_tries is_raised made over;
+              begins = begins_on (origin_of s run.holds.head run.holds.head false) p.came w.client w.ahead
+                  (seen_with c session.value) (seen_with d left) t.turn.calls.reads t.turn.queued.same
+                  (run.holds.begins run.holds.head false);
+              written = run.holds.written;
+            });
+      };
+    }
+
+    -- whichever it is, with more that calls no hook
+    pub refused_on : (f : Calls M K C) (context' : C) (session' : Box HttpSession)
+        (next : Phase L C) → log_of f ≡ log_of d
+        → (MayTry most (length attempts) e → next ≡ Connect context' session' attempts)
+        → ((¬ (MayTry most (length attempts) e)) → next ≡ Unlinked context' session' attempts e)
+        → session'.value ≡ left
+        → Advances {C = C} state start_at (opened_to s (log_of f))
+        (world_with w.client w.ahead failed) next
+    refused_on f context' session' next log again ends stays =
+        subst (λ (l : List LogEntry). Advances {C = C} state start_at (opened_to s l)
+        (world_with w.client w.ahead failed) next) (sym log)
+        (elim (may_or_not most (length attempts) e) [
+          | inl may ↦ subst (λ (n : Phase L C). Advances {C = C} state start_at
+              (opened_to s (log_of d)) (world_with w.client w.ahead failed) n) (sym (again may))
+              (tried_again context' session' stays may)
+          | inr over ↦ subst (λ (n : Phase L C). Advances {C = C} state start_at
+              (opened_to s (log_of d)) (world_with w.client w.ahead failed) n) (sym (ends over))
+              (not_connected context' session' stays over)
+        ])
+
+-- what the turn moved: another attempt follows, or the client is to be answered
+pub refused_moved : {L C : Type 0} (state : L → LinkState) (start_at : L → LinkStart) (w x : World)
+    (context context' : C) (session session' : Box HttpSession) (tries attempts : List AttemptRecord)
+    (a : AttemptRecord) (e : Error) (next : Phase L C) (did : RunStep) → did ≡ step.Moved
+    → attempts ≡ tries ++ a ∷ []
+    → (next ≡ Connect context' session' attempts) ⊎ (next ≡ Unlinked context' session' attempts e)
+    → HasCause state start_at w x (Connect context session tries) next did
+refused_moved {L = L} {C = C} state start_at w x context context' session session' tries attempts
+    a e next did moved are follows =
+    subst (λ (k : RunStep). HasCause state start_at w x (Connect context session tries) next k)
+    (sym moved)
+    (inr (elim follows [
+      | inl is ↦ inl (record {
+        context = context';
+        session = session';
+        attempt = a;
+        again = is ∙ ap (λ (xs : List AttemptRecord). Connect context' session' xs) are;
+      })
+      | inr is ↦ inr (inr (subst (λ (n : Phase L C). OwesAnswer n) (sym is) tt))
+    ]))

@@ -51,7 +51,7 @@ use Rattle.relay_proxy.specs.Ahead.{IsOwedAhead}
 use Rattle.relay_proxy.specs.Bound.{IsWithin, OwnGave, PhaseCounts, most_sides}
 use Rattle.relay_proxy.specs.Calls.{CallsLast, CallsSoFar, EndsBy, HasClosed, HasCome, IsLogged, IsUnended, KeepsValue, StandsAt, StandsBy, given_at, has_last, kept_at, last_from, last_of, log_of, reuse_of}
 use Rattle.relay_proxy.specs.ClosingHooks.{Gives, calls_next, error_to, given, has_begun, kept_in}
-use Rattle.relay_proxy.specs.Endings.{AttemptsUnlinked, EndsAhead, EndsLinked, EndsUnlinked, EndsWith, FailsToConnect, IsGiven, IsGivenAhead, IsInOrder}
+use Rattle.relay_proxy.specs.Endings.{AttemptsFailed, EndsAhead, EndsLinked, EndsUnlinked, EndsWith, IsGiven, IsGivenAhead, IsInOrder, MadeAhead}
 use Rattle.relay_proxy.specs.Passed.{Start, TellsClient, World, answer_in, before_end, begins_end, called_to, closed_to, opened_to}
 use Rattle.relay_proxy.specs.Phases.{PhaseHolds, RunSoFar}
 use Rattle.relay_proxy.specs.Refusals.{faults_before}
@@ -118,6 +118,7 @@ pub ends_served : {L C K X : Type 0} (phase : Phase L C) (here : At K X) (goes_b
     → EndsServed phase goes_back × (has_last here goes_back ≡ true)
 ends_served ReadHead here goes_back is = absurd (cc)
 ends_served (Connect context session tries) here goes_back is = absurd (cc)
+ends_served (Unlinked context session attempts error) here goes_back is = absurd (cc)
 ends_served (Prepare context session link lease) here goes_back is = absurd (cc)
 ends_served (Relay a) here goes_back is = absurd (cc)
 ends_served (Broken context session link lease keep e) here goes_back is = absurd (cc)
@@ -224,8 +225,8 @@ module _ (s : Start) (log closed : List LogEntry) where
       IsInOrder.is_ahead why text (owed_on p why text owed) front sent
   order_on p (IsInOrder.is_exchange cut head out reused ends relayable sends order next) =
       IsInOrder.is_exchange cut head out reused ends relayable sends order next
-  order_on p (IsInOrder.is_unlinked head has front sent) =
-      IsInOrder.is_unlinked head (accepted_on p head has) front sent
+  order_on p (IsInOrder.is_unlinked head e has refused answers front sent) =
+      absurd (unanswered e answers)
   order_on p (IsInOrder.is_unsent head keep raised e has refuses treated answers front sent) =
       absurd (unanswered e answers)
   order_on p (IsInOrder.is_failure cut head out reused ends before raised e relayable sends order
@@ -268,44 +269,36 @@ module _ (s : Start) (log closed : List LogEntry) where
     untreated = a.untreated;
   }
 
-  connects_on : (p : Passed) (w : World) (e : Error) → FailsToConnect (opened_to s log) p w e
-      → FailsToConnect (closed_to s log closed) p w e
-  connects_on p w e f = record {
-    unconnected = record {
-      fault = f.unconnected.fault;
-      kind = f.unconnected.kind;
-      error = f.unconnected.error;
-      rose = f.unconnected.rose;
-      head = f.unconnected.head;
-      accepted = accepted_on p f.unconnected.head f.unconnected.accepted;
-      unsent = f.unconnected.unsent;
-    };
-    answered = given_on p w _ f.answered;
-  }
-
+  -- no request without a link failed with that error, whose answer would come before
   unlinked_on : (p : Passed) (w : World) (e : Error) (reuse : Bool)
       → EndsUnlinked (opened_to s log) p w (Served (Some e) reuse)
       → EndsUnlinked (closed_to s log closed) p w (Served (Some e) reuse)
-  unlinked_on p w e reuse (inl fails, stays) = (inl (connects_on p w e fails), stays)
+  unlinked_on p w e reuse (inl fails, stays) = absurd (unanswered e fails.owed.told)
   unlinked_on p w e reuse (inr ahead, stays) = (inr (ahead_on p w (Some e) ahead), stays)
 
   tries_on : (tries : List AttemptRecord) → AreTries (opened_to s log) tries
       → AreTries (closed_to s log closed) tries
-  tries_on tries are = record { each = are.each; allowed = are.allowed }
+  tries_on tries are = record { told = are.told; each = are.each; allowed = are.allowed }
 
-  attempts_on : (p : Passed) (w : World) (attempts : List AttemptRecord) (e : Error) (reuse : Bool)
-      → AttemptsUnlinked (opened_to s log) p w attempts (Served (Some e) reuse)
-      → AttemptsUnlinked (closed_to s log closed) p w attempts (Served (Some e) reuse)
-  attempts_on p w attempts e reuse (inl tried) = inl (record {
-    tries = tried.tries;
-    last = tried.last;
-    attempts_are = tried.attempts_are;
-    are_tries = tries_on tried.tries tried.are_tries;
-    is_record = tried.is_record;
-    over = tried.over;
-  })
-  attempts_on p w attempts e reuse (inr (none, ahead)) =
-      inr (none, ahead_on p w (Some e) ahead)
+  made_on : (why : Option Error) (attempts : List AttemptRecord)
+      → MadeAhead (opened_to s log) why attempts → MadeAhead (closed_to s log closed) why attempts
+  made_on None attempts made = made
+  made_on (Some e) attempts made = tries_on attempts made
+
+  attempts_on : (p : Passed) (w : World) (attempts : List AttemptRecord) (e : Error)
+      → AttemptsFailed (opened_to s log) p w attempts e
+      → AttemptsFailed (closed_to s log closed) p w attempts e
+  unfolding ahead_on
+  attempts_on p w attempts e (AttemptsFailed.unlinked made) =
+      AttemptsFailed.unlinked (record {
+        refused = made.refused;
+        told = made.told;
+        each = made.each;
+        allowed = made.allowed;
+        over = made.over;
+      })
+  attempts_on p w attempts e (AttemptsFailed.ahead ends made) =
+      AttemptsFailed.ahead (ahead_on p w (Some e) ends) (made_on ends.why attempts made)
 
   -- no attempt that had a link failed with that error, whose answer would come before
   linked_on : (p : Passed) (w : World) (link : LinkState) (start : LinkStart) (keep reuse : Bool)
@@ -322,7 +315,7 @@ module _ {L : Type 0} (state : L → LinkState) (start_at : L → LinkStart) (s 
       → EndsWith state start_at (closed_to s log closed) p w own attempts (Served (Some e) reuse)
   ends_on p w [] attempts e reuse ends = (
     unlinked_on s log closed p w e reuse ends.0,
-    attempts_on s log closed p w attempts e reuse ends.1,
+    attempts_on s log closed p w attempts e ends.1,
   )
   ends_on p w (r ∷ []) attempts e reuse ends =
       absurd (linked_on s log closed p w (state r.link) (start_at r.link) r.keep reuse
@@ -927,7 +920,9 @@ module _ {C M K : Type 0} (allows : Standing → LogEntry → Type 0) (mark_of :
       → Gives (log_of calls) (Served error reuse) (given_at here (Served error reuse))
   ends_give calls client error reuse (at.Kept kept) ends = absurd ends
   ends_give calls client error reuse (at.Opening there) ends = Gives.same refl (inr ends.1)
-  ends_give calls client error reuse (at.Named peer) ends = Gives.same refl (inr ends.1)
+  ends_give calls client error reuse (at.Named peer) ends = absurd ends
+  ends_give calls client error reuse (at.Repeatable treated) ends = absurd ends
+  ends_give calls client error reuse at.Warning ends = absurd ends
   ends_give calls client error reuse at.Linked ends = absurd ends
   ends_give calls client error reuse (at.Treated treated) ends = absurd ends
   ends_give calls client error reuse (at.Closing held there) ends =
@@ -946,6 +941,8 @@ given_same : {K X : Type 0} (here : At K X) (came : Outcome) → is_served came 
 given_same (at.Kept kept) came is = refl
 given_same (at.Opening there) came is = refl
 given_same (at.Named peer) came is = refl
+given_same (at.Repeatable error) came is = refl
+given_same at.Warning came is = refl
 given_same at.Linked came is = refl
 given_same (at.Treated error) came is = refl
 given_same (at.Closing held there) NoRequest is = refl
@@ -984,6 +981,7 @@ module _ {C M K : Type 0} (allows : Standing → LogEntry → Type 0) (mark_of :
       → Gives (log_of calls) came (given_at calls.at came)
   phase_gives calls ReadHead came is so_far = limit_gives calls came is
   phase_gives calls (Connect context session tries) came is so_far = limit_gives calls came is
+  phase_gives calls (Unlinked context session attempts error) came is so_far = limit_gives calls came is
   phase_gives calls (Prepare context session link lease) came is so_far =
       limit_gives calls came is
   phase_gives calls (Relay a) came is so_far = limit_gives calls came is
@@ -1045,8 +1043,9 @@ module _ {C M K : Type 0} (allows : Standing → LogEntry → Type 0) (mark_of :
   ends_keep calls client error reuse (at.Kept kept) ends some = absurd ends
   ends_keep calls client error reuse (at.Opening there) ends some =
       absurd (none_kept K (Served error reuse) some)
-  ends_keep calls client error reuse (at.Named peer) ends some =
-      absurd (none_kept K (Served error reuse) some)
+  ends_keep calls client error reuse (at.Named peer) ends some = absurd ends
+  ends_keep calls client error reuse (at.Repeatable treated) ends some = absurd ends
+  ends_keep calls client error reuse at.Warning ends some = absurd ends
   ends_keep calls client error reuse at.Linked ends some = absurd ends
   ends_keep calls client error reuse (at.Treated treated) ends some = absurd ends
   ends_keep calls client error reuse (at.Closing held there) ends some =
@@ -1081,6 +1080,8 @@ module _ {C M K : Type 0} (allows : Standing → LogEntry → Type 0) (mark_of :
   phase_keeps calls ReadHead came is so_far some = limit_keeps calls came is some
   phase_keeps calls (Connect context session tries) came is so_far some =
       limit_keeps calls came is some
+  phase_keeps calls (Unlinked context session attempts error) came is so_far some =
+      limit_keeps calls came is some
   phase_keeps calls (Prepare context session link lease) came is so_far some =
       limit_keeps calls came is some
   phase_keeps calls (Relay a) came is so_far some = limit_keeps calls came is some
@@ -1111,6 +1112,7 @@ pub finishes_came : {L C : Type 0} (phase : Phase L C) (before after : Option (L
     (ending : Ending) → Finishes phase before after ending → CameTo phase ending.outcome
 finishes_came ReadHead before after ending does = does.limit
 finishes_came (Connect context session tries) before after ending does = does.limit
+finishes_came (Unlinked context session attempts error) before after ending does = does.limit
 finishes_came (Prepare context session link lease) before after ending does = does.limit
 finishes_came (Relay a) before after ending does = does.limit
 finishes_came (Broken context session link lease keep error) before after ending does = does.limit
@@ -1125,6 +1127,8 @@ cut_off : {K X : Type 0} (here : At K X) (error : Option Error) (reuse : Bool)
 cut_off (at.Kept kept) error reuse calls = absurd (true≢false (sym calls))
 cut_off (at.Opening there) error reuse calls = absurd (true≢false (sym calls))
 cut_off (at.Named peer) error reuse calls = absurd (true≢false (sym calls))
+cut_off (at.Repeatable treated) error reuse calls = absurd (true≢false (sym calls))
+cut_off at.Warning error reuse calls = absurd (true≢false (sym calls))
 cut_off at.Linked error reuse calls = absurd (true≢false (sym calls))
 cut_off (at.Treated treated) error reuse calls = absurd (true≢false (sym calls))
 cut_off (at.Closing held there) error reuse calls = rw calls refl
@@ -1153,6 +1157,7 @@ pub undone_limit : {L C K X : Type 0} (phase : Phase L C) (here : At K X) (came 
     → CameTo phase came → is_done phase here ≡ false → given_at here came ≡ TurnLimit
 undone_limit ReadHead here came is undone = limited here came is
 undone_limit (Connect context session tries) here came is undone = limited here came is
+undone_limit (Unlinked context session attempts error) here came is undone = limited here came is
 undone_limit (Prepare context session link lease) here came is undone = limited here came is
 undone_limit (Relay a) here came is undone = limited here came is
 undone_limit (Broken context session link lease keep error) here came is undone =
@@ -1169,6 +1174,8 @@ none_cut : {K X : Type 0} (here : At K X) (error : Option Error) (reuse : Bool)
 none_cut (at.Kept kept) error reuse none = λ limit. cc
 none_cut (at.Opening there) error reuse none = λ limit. cc
 none_cut (at.Named peer) error reuse none = λ limit. cc
+none_cut (at.Repeatable treated) error reuse none = λ limit. cc
+none_cut at.Warning error reuse none = λ limit. cc
 none_cut at.Linked error reuse none = λ limit. cc
 none_cut (at.Treated treated) error reuse none = λ limit. cc
 none_cut (at.Closing held there) error reuse none = λ limit.
@@ -1207,6 +1214,8 @@ module _ {L C : Type 0} (state : L → LinkState) (start_at : L → LinkStart) w
   done_gives tasks ends s client ahead own ReadHead here came outcome counts is given done over =
       absurd (true≢false (sym done))
   done_gives tasks ends s client ahead own (Connect context session tries) here came outcome counts
+      is given done over = absurd (true≢false (sym done))
+  done_gives tasks ends s client ahead own (Unlinked context session attempts error) here came outcome counts
       is given done over = absurd (true≢false (sym done))
   done_gives tasks ends s client ahead own (Prepare context session link lease) here came outcome
       counts is given done over = absurd (true≢false (sym done))

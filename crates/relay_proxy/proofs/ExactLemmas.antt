@@ -125,7 +125,7 @@ exact_no_request s p w (Served None reuse) ends none ended =
     absurd (has_nothing (owed_head ends.0.why ends.0.text ends.0.owed).1.has none)
 exact_no_request s p w (Served (Some e) reuse) ends none ended =
     absurd (elim ends.0 as (λ _. ⊥) [
-      | inl missed ↦ has_nothing missed.unconnected.accepted.has none
+      | inl missed ↦ has_nothing missed.owed.unconnected.accepted.has none
       | inr ahead ↦ has_nothing (owed_head ahead.why ahead.text ahead.owed).1.has none
     ])
 exact_no_request s p w TurnLimit ends none ended = inl (inl refl)
@@ -211,7 +211,7 @@ exact_refused s p w (Served None reuse) ends answer error down whole =
 exact_refused s p w (Served (Some e) reuse) ends answer error down whole =
     absurd (elim ends.0 as (λ _. ⊥) [
       | inl missed ↦
-          turned_down_or_accepted down missed.unconnected.head missed.unconnected.accepted
+          turned_down_or_accepted down missed.owed.unconnected.head missed.owed.unconnected.accepted
       | inr ahead ↦
           let one = owed_head ahead.why ahead.text ahead.owed in
           turned_down_or_accepted down one.0 one.1
@@ -267,7 +267,8 @@ exact_unrelayed s p w (Refused told) ends e cause =
 exact_unrelayed s p w (Served None reuse) ends e cause = absurd (ahead_or_left ends.0 cause)
 exact_unrelayed s p w (Served (Some told) reuse) ends e cause =
     absurd (elim ends.0 as (λ _. ⊥) [
-      | inl missed ↦ relayed_or_not missed.unconnected.head missed.unconnected.accepted cause
+      | inl missed ↦
+          relayed_or_not missed.owed.unconnected.head missed.owed.unconnected.accepted cause
       | inr ahead ↦ ahead_or_left ahead cause
     ])
 exact_unrelayed s p w TurnLimit ends e cause = inl (inl refl)
@@ -443,7 +444,7 @@ whole_unlinked s p w (Served None reuse) ends head relayable passes asks client 
     absurd (passes None ends.0)
 whole_unlinked s p w (Served (Some e) reuse) ends head relayable passes asks client connector =
     absurd (elim ends.0 as (λ _. ⊥) [
-      | inl missed ↦ connector missed.unconnected.rose
+      | inl missed ↦ connector missed.owed.unconnected.rose
       | inr ahead ↦ passes (Some e) ahead
     ])
 whole_unlinked s p w TurnLimit ends head relayable passes asks client connector = inl (inl refl)

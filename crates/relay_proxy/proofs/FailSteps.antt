@@ -38,7 +38,6 @@ use Rattle.relay_proxy.specs.Answer.{answer_to, owed_text, WaitsOf}
 use Rattle.relay_proxy.specs.Calls.{log_of, seen_with}
 use Rattle.relay_proxy.specs.Endings.{IsInOrder, IsGiven, FailsToWrite, IsPartRelayed, Misses}
 use Rattle.relay_proxy.specs.Leaving.{Answers}
-use Rattle.relay_proxy.specs.Named.{peer_in}
 use Rattle.relay_proxy.specs.Passed.{World, Start, closed_to, opened_to, IsUnsent, IsUntouched, TellsClient}
 use Rattle.relay_proxy.specs.Phases.{IsBroken, IsCalm, IsConnecting, IsGoing, IsLeased, LeavesAhead, LeavesSession, PhaseHolds, RunSoFar}
 use Rattle.relay_proxy.specs.Sent.{IsAnswered, IsTreated}
@@ -52,7 +51,7 @@ use Rattle.relay_proxy.specs.declared.outcome.Outcome.TheVariants as outcome
 use Rattle.relay_proxy.specs.declared.record.AttemptRecord.{AttemptRecord}
 use Rattle.relay_proxy.proofs.AnswerSteps.{ends_missed}
 use Rattle.relay_proxy.proofs.CutLemmas.{cut_next}
-use Rattle.relay_proxy.proofs.NamedLemmas.{names_none, peer_still}
+use Rattle.relay_proxy.proofs.NamedLemmas.{TellsSame, tells_same}
 use Rattle.relay_proxy.proofs.OpenHead.{exchange_open}
 use Rattle.relay_proxy.proofs.OpenSteps.{called_tells, closed_accepted, closed_tells, once_goes_on, once_open, once_request, stays_connecting}
 use Rattle.relay_proxy.proofs.PrepareSteps.{leased_on}
@@ -278,12 +277,11 @@ module _ {L C M K : Type 0} (state : L → LinkState) (start_at : L → LinkStar
     more : log_of d ≡ log_of c ++ t.call.turn.e ∷ []
     more = t.call.turn.calls.log
 
-    -- the same peer is named
-    peers : peer_in (log_of d) ≡ peer_in (log_of c)
+    -- the same peer is named, and the attempts are the same
+    peers : TellsSame (log_of c) (log_of d)
     peers =
-        ap (λ (l : List LogEntry). peer_in l) more
-        ∙ peer_still (log_of c) t.call.turn.e
-        (names_none t.call.turn.e hook.ErrorWhileProxy t.call.turn.hook refl)
+        subst (λ (l : List LogEntry). TellsSame (log_of c) l) (sym more)
+        (tells_same (log_of c) t.call.turn.e hook.ErrorWhileProxy t.call.turn.hook refl refl)
 
     leased_still : IsLeased (opened_to s (log_of d)) p (state link) (start_at link) lease
     leased_still = leased_on s (log_of c) (log_of d) p (state link) (start_at link) lease peers
@@ -301,7 +299,7 @@ module _ {L C M K : Type 0} (state : L → LinkState) (start_at : L → LinkStar
     broken_still (IsBroken.ahead_of_it l) = IsBroken.ahead_of_it (record {
       connecting = stays_connecting allows c d session.value left.value mark behind
           hook.ErrorWhileProxy from (treated_at (may_follow treated (seen_with c session.value)))
-          t.call.turn s p w (tries_in lease) (inr peers) l.connecting;
+          t.call.turn s p w (tries_in lease) refl l.connecting;
       leased = leased_still;
       fresh = l.fresh;
       why = refuses_on (log_of c) (log_of d) t.call.turn.e more t.call.turn.hook l.why;
@@ -346,7 +344,11 @@ closed_leased s log closed p link start lease leased = record {
   peer = leased.peer;
   recorded = leased.recorded;
   reused = leased.reused;
-  tries = record { each = leased.tries.each; allowed = leased.tries.allowed };
+  tries = record {
+    told = leased.tries.told;
+    each = leased.tries.each;
+    allowed = leased.tries.allowed;
+  };
 }
 
 -- an exchange that failed left that session, whatever they are

@@ -1,5 +1,5 @@
 -- Turns before a link is asked for: the client's head comes, is accepted, or is refused.
-use Rattle.std.proofs.Common.{◌≡◌, ℕ, ◌<◌, Bool, true, false, not, ◌&&◌, List, [], ◌∷◌, ◌++◌, length, take, drop, Option, Some, None, refl, le_refl, ◌≢◌, sym, ap, subst, ◌∙◌, inl, inr, arith, append_assoc, append-nil}
+use Rattle.std.proofs.Common.{◌≡◌, ℕ, ◌<◌, Bool, true, List, [], ◌∷◌, ◌++◌, length, take, drop, Option, Some, None, refl, le_refl, ◌≢◌, sym, ap, subst, ◌∙◌, inl, inr, arith, append_assoc, append-nil}
 use Rattle.std.specs.Global.{Box}
 use Rattle.relay_tasks.specs.declared.Error.{Error}
 use Rattle.relay_tasks.specs.declared.ErrorSource.TheVariants.{Downstream}
@@ -8,7 +8,6 @@ use Rattle.relay_tasks.specs.Head.{RequestHead}
 use Rattle.relay_links.specs.Link.{LinkState, LinkStart, GivesBytes, EndsRead, FailsRead}
 use Rattle.relay_links.specs.Told.{Since}
 use Rattle.relay_links.proofs.SinceLemmas.{Since-start}
-use Rattle.http.specs.declared.Version.{Version}
 use Rattle.relay_h1.specs.BodyReader.{first_state, is_done}
 use Rattle.relay_h1.specs.ClientHead.{is_sent_to}
 use Rattle.relay_h1.specs.Wire.{generated}
@@ -122,18 +121,6 @@ pub unread_sent : (status : ℕ) (reading : Reading) (old : Writing) → head_of
 unread_sent status reading.Head old none answers =
     ap (λ (r : Request). is_sent_to r.version status) (answers [])
 unread_sent status (reading.Body begun) old none answers = cc
-
--- what is not both is not
-not_both : (b : Bool) → not (b && false) ≡ true
-not_both true = refl
-not_both false = refl
-
--- 500 and 502 are sent to each client
-pub sent_500 : (version : Version) → is_sent_to version 500 ≡ true
-sent_500 version = not_both _
-
-pub sent_502 : (version : Version) → is_sent_to version 502 ≡ true
-sent_502 version = not_both _
 
 -- how it ends where the client ended with these bytes of its head
 ended_unlinked : (s : Start) (p : Passed) (x : World) (bytes : List ℕ) → bytes ≡ asked s p

@@ -1,13 +1,13 @@
 -- What a call of a hook makes of a request that wants a link.
 --
---   turned, named              the call, by where it leads
+--   turned, goes_by            the call, by where it leads
 --   opening_on                 the calls so far, behind it
 --   goes_connecting            the request goes on
 --   answered                   hooks answered it
 --   purged                     it is a purge
 --   counts_called ..           what is counted of the call
 --   stop_text                  what answers that
-use Rattle.std.proofs.Common.{◌≡◌, ℕ, ◌≤◌, true, false, List, [], ◌∷◌, ◌++◌, Ok, Some, None, Bool, Option, is_some, refl, sym, ap, subst, ◌∙◌, inl, inr, arith, true≢false}
+use Rattle.std.proofs.Common.{◌≡◌, ℕ, ◌≤◌, true, false, List, [], ◌∷◌, ◌++◌, Some, None, Bool, Option, is_some, refl, sym, ap, subst, ◌∙◌, arith, true≢false}
 use Rattle.relay_tasks.specs.Head.{RequestHead}
 use Rattle.relay_tasks.specs.Hooks.{same_hook}
 use Rattle.relay_tasks.specs.declared.Error.{Error}
@@ -40,16 +40,15 @@ use Rattle.relay_opening.specs.declared.place.Place.TheVariants as place
 use Rattle.relay_opening.specs.declared.place.End.{End}
 use Rattle.relay_opening.specs.declared.place.End.TheVariants as end
 use Rattle.relay_opening.proofs.QueuedLemmas.{end_open}
-use Rattle.relay_trying.specs.Trying.{NamesPeer}
 use Rattle.relay_attempt.specs.Passed.{Passed}
 use Rattle.relay_proxy.specs.Ahead.{IsOwedAhead, LastFails}
 use Rattle.relay_proxy.specs.Answer.{QueuesAnswer, answer_for}
-use Rattle.relay_proxy.specs.Calls.{CallsNext, CountsCalls, EndsBy, GoesOn, IsLogged, IsOpening, IsOwing, IsUnended, TakesNext, TellsError, TellsPeer, comes_next, failed_at, final_at, has_peer, is_calling, leads_at, leads_to, log_of, place_station, seen_with, station_at}
-use Rattle.relay_proxy.specs.Named.{IsNamed, peer_in}
+use Rattle.relay_proxy.specs.Calls.{CallsNext, CountsCalls, EndsBy, Goes, GoesOn, IsLogged, IsOpening, IsOwing, IsUnended, TakesNext, TellsError, TellsPeer, comes_next, failed_at, final_at, is_before, leads_at, leads_to, log_of, place_station, seen_with, station_at}
 use Rattle.relay_proxy.specs.Passed.{Start, World, begins_end, opened_to}
 use Rattle.relay_proxy.specs.Phases.{IsConnecting}
 use Rattle.relay_proxy.specs.Relayable.{IsAccepted}
 use Rattle.relay_proxy.specs.Sent.{IsUntreated}
+use Rattle.relay_proxy.specs.Tries.{refusals_in}
 use Rattle.relay_hooks.specs.Session.{moment}
 use Rattle.relay_calls.specs.Log.{Walk}
 use Rattle.relay_closing.specs.Place.{begun}
@@ -63,7 +62,7 @@ use Rattle.relay_proxy.specs.declared.record.AttemptRecord.{AttemptRecord}
 use Rattle.relay_proxy.specs.declared.work.Work.{Work}
 use Rattle.relay_proxy.proofs.CallLemmas.{all_entries, logged_more, logged_same, none_called, one_called, opening_stands}
 use Rattle.relay_proxy.proofs.LastCalls.{unended_unlogged}
-use Rattle.relay_proxy.proofs.NamedLemmas.{names_one, peer_last}
+use Rattle.relay_proxy.proofs.NamedLemmas.{refusals_still}
 use Rattle.relay_proxy.proofs.OpenSteps.{AnswersAs, called_accepted, hooks_answer, stands_first, stays_connecting}
 use Rattle.relay_proxy.proofs.TreatLemmas.{unended_more, untreated_more}
 
@@ -73,15 +72,16 @@ record IsDone {K : Type 0} (p : Place K) : Type 0 where
   is : p ≡ place.Ended how
   answers : AnswersAs how
   at : end_station how ≡ station.answered
+  over : Goes {K = K} (place.Ended how) → ⊥
 
 done_of : {K : Type 0} (p : Place K) → leads_to p ≡ led.Answered → IsDone p
 done_of (place.Behind last) is = cc
 done_of (place.Ended end.Attempts) is = cc
 done_of (place.Ended end.Answered) is =
-    record { how = end.Answered; is = refl; answers = tt; at = refl }
+    record { how = end.Answered; is = refl; answers = tt; at = refl; over = λ goes. goes }
 done_of (place.Ended end.Purge) is = cc
 done_of (place.Ended end.Declined) is =
-    record { how = end.Declined; is = refl; answers = tt; at = refl }
+    record { how = end.Declined; is = refl; answers = tt; at = refl; over = λ goes. goes }
 done_of (place.Ended (end.Unwritten why)) is = cc
 done_of (place.Ended (end.Failed error)) is = cc
 done_of place.Lost is = cc
@@ -107,6 +107,8 @@ abbrev place_in : {K X : Type 0} → At K X → Place K
 place_in (at.Kept kept) = place.Lost
 place_in (at.Opening there) = there
 place_in (at.Named peer) = place.Lost
+place_in (at.Repeatable error) = place.Lost
+place_in at.Warning = place.Lost
 place_in at.Linked = place.Lost
 place_in (at.Treated error) = place.Lost
 place_in (at.Closing held there) = place.Lost
@@ -118,22 +120,24 @@ same_place p q same = ap (λ (a : At _ _). place_in a) same
 pub same_peer : {K X : Type 0} (p q : Peer) → ◌≡◌ {A = At K X} (at.Named p) (at.Named q) → p ≡ q
 same_peer p q same = cc
 
--- a hook in which no error is treated and with which no end begins
+-- a hook in which no error of an attempt is treated, and with which no end begins
 abbrev IsBefore : Hook → Type 0
-IsBefore which = (same_hook hook.ErrorWhileProxy which ≡ false) × (begins_end which ≡ false)
+IsBefore which =
+    (same_hook hook.ErrorWhileProxy which ≡ false) × (begins_end which ≡ false)
+    × (same_hook hook.FailToConnect which ≡ false)
 
 -- the hook that comes next is one
 opens_behind : {K : Type 0} (last : Called K) (has_modules : Bool)
     → IsBefore (next_hook last has_modules)
-opens_behind (called.Made None) has_modules = (refl, refl)
-opens_behind (called.Made (Some kept)) has_modules = (refl, refl)
-opens_behind called.Handed has_modules = (refl, refl)
-opens_behind called.Early has_modules = (refl, refl)
-opens_behind called.Spawning true = (refl, refl)
-opens_behind called.Spawning false = (refl, refl)
-opens_behind called.Headed has_modules = (refl, refl)
-opens_behind called.Filtered has_modules = (refl, refl)
-opens_behind called.Sending has_modules = (refl, refl)
+opens_behind (called.Made None) has_modules = (refl, refl, refl)
+opens_behind (called.Made (Some kept)) has_modules = (refl, refl, refl)
+opens_behind called.Handed has_modules = (refl, refl, refl)
+opens_behind called.Early has_modules = (refl, refl, refl)
+opens_behind called.Spawning true = (refl, refl, refl)
+opens_behind called.Spawning false = (refl, refl, refl)
+opens_behind called.Headed has_modules = (refl, refl, refl)
+opens_behind called.Filtered has_modules = (refl, refl, refl)
+opens_behind called.Sending has_modules = (refl, refl, refl)
 
 -- where hooks come one behind the other, that is the one
 same_next : (a b : Hook) → Some a ≡ Some b → IsBefore a → IsBefore b
@@ -145,7 +149,7 @@ opens_by (at.Kept kept) has_modules which is = cc
 opens_by (at.Opening (place.Behind last)) has_modules which is =
     same_next (next_hook last has_modules) which is (opens_behind last has_modules)
 opens_by (at.Opening (place.Ended end.Attempts)) has_modules which is =
-    same_next hook.UpstreamPeer which is (refl, refl)
+    same_next hook.UpstreamPeer which is (refl, refl, refl)
 opens_by (at.Opening (place.Ended end.Answered)) has_modules which is = cc
 opens_by (at.Opening (place.Ended end.Purge)) has_modules which is = cc
 opens_by (at.Opening (place.Ended end.Declined)) has_modules which is = cc
@@ -153,27 +157,13 @@ opens_by (at.Opening (place.Ended (end.Unwritten why))) has_modules which is = c
 opens_by (at.Opening (place.Ended (end.Failed error))) has_modules which is = cc
 opens_by (at.Opening place.Lost) has_modules which is = cc
 opens_by (at.Named peer) has_modules which is = cc
+opens_by (at.Repeatable error) has_modules which is =
+    same_next hook.SuppressProxyWarnLog which is (refl, refl, refl)
+opens_by at.Warning has_modules which is =
+    same_next hook.RequestSummary which is (refl, refl, refl)
 opens_by at.Linked has_modules which is = cc
 opens_by (at.Treated error) has_modules which is = cc
 opens_by (at.Closing held there) has_modules which is = cc
-
--- before a hook is called no peer was named
-pub unnamed : {K X : Type 0} (a : At K X) → is_calling a ≡ true → has_peer a ≡ false
-unnamed (at.Kept kept) is = refl
-unnamed (at.Opening there) is = refl
-unnamed (at.Named peer) is = absurd (true≢false (sym is))
-unnamed at.Linked is = absurd (true≢false (sym is))
-unnamed (at.Treated error) is = absurd (true≢false (sym is))
-unnamed (at.Closing held there) is = absurd (true≢false (sym is))
-
--- nor is one where an error of a hook is to be answered, of which the log tells
-pub unnamed_failed : {K X : Type 0} (a : At K X) (e : Error) → final_at a ≡ Some e → has_peer a ≡ false
-unnamed_failed (at.Kept kept) e is = refl
-unnamed_failed (at.Opening there) e is = refl
-unnamed_failed (at.Named peer) e is = cc
-unnamed_failed at.Linked e is = cc
-unnamed_failed (at.Treated error) e is = cc
-unnamed_failed (at.Closing held there) e is = cc
 
 failed_station : {K : Type 0} (p : Place K) (e : Error) → failed_at p ≡ Some e
     → place_station p ≡ station.failing
@@ -191,6 +181,8 @@ pub final_station : {K X : Type 0} (a : At K X) (e : Error) → final_at a ≡ S
 final_station (at.Kept kept) e is = cc
 final_station (at.Opening there) e is = failed_station there e is
 final_station (at.Named peer) e is = cc
+final_station (at.Repeatable treated) e is = cc
+final_station at.Warning e is = cc
 final_station at.Linked e is = cc
 final_station (at.Treated error) e is = cc
 final_station (at.Closing held there) e is = cc
@@ -201,6 +193,8 @@ final_fails (at.Kept kept) log e is tells = cc
 final_fails (at.Opening there) log e is tells =
     subst (λ (o : Option Error). TellsError o log) is tells
 final_fails (at.Named peer) log e is tells = cc
+final_fails (at.Repeatable treated) log e is tells = cc
+final_fails at.Warning log e is tells = cc
 final_fails at.Linked log e is tells = cc
 final_fails (at.Treated error) log e is tells = cc
 final_fails (at.Closing held there) log e is tells = cc
@@ -217,71 +211,45 @@ module _ {C M K : Type 0} (allows : Standing → LogEntry → Type 0) (mark_of :
     (old new : Calls M K C) (context context' : C) (client left : HttpSession)
     (turns : CallsNext allows old client (mark_of context) new left (mark_of context'))
   where
-    -- a hook was called, and led to that place
+    -- a hook before the attempts was called, and led to that place
     record Turned (p : Place K) : Type 0 where
+      before : is_before old.at ≡ true
       which : Hook
       turn : TurnsTo allows which (station_at old.at) (seen_with old client) (mark_of context)
           (seen_with new left) (mark_of context') p
 
     turned_by : CallsNext allows old client (mark_of context) new left (mark_of context')
-        → (p : Place K) → new.at ≡ at.Opening p → (p ≡ place.Lost → ⊥) → Turned p
-    turned_by (TakesNext.leads which comes there to turn) p is known = record {
+        → (p : Place K) → new.at ≡ at.Opening p → (p ≡ place.Lost → ⊥) → (Goes p → ⊥) → Turned p
+    turned_by (TakesNext.leads before which comes there to turn) p is known over = record {
+      before = before;
       which = which;
       turn = subst (λ (q : Place K). TurnsTo allows which (station_at old.at)
           (seen_with old client) (mark_of context) (seen_with new left) (mark_of context') q)
           (same_place there p (sym to ∙ is)) turn;
     }
-    turned_by (TakesNext.names was peer to names) p is known =
-        absurd (let clash : at.Named peer ≡ at.Opening p = sym to ∙ is in cc)
-    turned_by (TakesNext.lost to same) p is known =
+    turned_by (TakesNext.tried t) p is known over =
+        absurd (over (subst (λ (a : At K C). GoesOn a) is t.goes))
+    turned_by (TakesNext.lost to same) p is known over =
         absurd (known (sym (same_place place.Lost p (sym to ∙ is))))
 
-    -- the call, by the place that it leads to
-    turned : (p : Place K) → new.at ≡ at.Opening p → (p ≡ place.Lost → ⊥) → Turned p
-    turned p is known = turned_by turns p is known
+    -- the call, by the place that it leads to, where the request does not go on there
+    turned : (p : Place K) → new.at ≡ at.Opening p → (p ≡ place.Lost → ⊥) → (Goes p → ⊥) → Turned p
+    turned p is known over = turned_by turns p is known over
 
-    -- a peer was named
-    record IsNaming (peer : Peer) : Type 0 where
-      was : old.at ≡ at.Opening (place.Ended end.Attempts)
-      names : NamesPeer allows (seen_with old client) (mark_of context) (seen_with new left)
-          (mark_of context') (Ok peer)
-
-    named_by : CallsNext allows old client (mark_of context) new left (mark_of context')
-        → (peer : Peer) → new.at ≡ at.Named peer → IsNaming peer
-    named_by (TakesNext.leads which comes there to turn) peer is =
-        absurd (let clash : at.Opening there ≡ at.Named peer = sym to ∙ is in cc)
-    named_by (TakesNext.names was other to names) peer is = record {
-      was = was;
-      names = subst (λ (q : Peer). NamesPeer allows (seen_with old client) (mark_of context)
-          (seen_with new left) (mark_of context') (Ok q)) (same_peer other peer (sym to ∙ is)) names;
-    }
-    named_by (TakesNext.lost to same) peer is =
-        absurd (let clash : at.Opening place.Lost ≡ at.Named peer = sym to ∙ is in cc)
-
-    -- no call of these leads to a link
-    unlinked_by : CallsNext allows old client (mark_of context) new left (mark_of context')
-        → new.at ≡ at.Linked → ⊥
-    unlinked_by (TakesNext.leads which comes there to turn) is =
-        let clash : at.Opening there ≡ at.Linked = sym to ∙ is in cc
-    unlinked_by (TakesNext.names was peer to names) is =
-        let clash : at.Named peer ≡ at.Linked = sym to ∙ is in cc
-    unlinked_by (TakesNext.lost to same) is =
-        let clash : at.Opening place.Lost ≡ at.Linked = sym to ∙ is in cc
-
-    -- no call of these treats an error
+    -- no call of these treats an error of an attempt that had a link
     untreated_by : CallsNext allows old client (mark_of context) new left (mark_of context')
         → IsUntreated (log_of old) → IsUntreated (log_of new)
-    untreated_by (TakesNext.leads which comes (place.Behind last) to turn) none =
+    untreated_by (TakesNext.leads before which comes (place.Behind last) to turn) none =
         untreated_more (log_of old) (log_of new) turn.e which turn.calls.log turn.hook
         (opens_by old.at (is_some old.session.modules) which comes).0 none
-    untreated_by (TakesNext.leads which comes (place.Ended how) to turn) none =
+    untreated_by (TakesNext.leads before which comes (place.Ended how) to turn) none =
         untreated_more (log_of old) (log_of new) turn.0.e which turn.0.calls.log turn.0.hook
         (opens_by old.at (is_some old.session.modules) which comes).0 none
-    untreated_by (TakesNext.leads which comes place.Lost to turn) none =
+    untreated_by (TakesNext.leads before which comes place.Lost to turn) none =
         subst (λ (l : List LogEntry). IsUntreated l) (sym turn) none
-    untreated_by (TakesNext.names was peer to names) none =
-        untreated_more (log_of old) (log_of new) names.turn.e hook.UpstreamPeer names.turn.calls.log
-        names.turn.hook refl none
+    untreated_by (TakesNext.tried t) none =
+        untreated_more (log_of old) (log_of new) t.turn.e t.which t.turn.calls.log t.turn.hook
+        (opens_by old.at (is_some old.session.modules) t.which t.comes).0 none
     untreated_by (TakesNext.lost to same) none =
         subst (λ (l : List LogEntry). IsUntreated l) (sym same) none
 
@@ -291,85 +259,123 @@ module _ {C M K : Type 0} (allows : Standing → LogEntry → Type 0) (mark_of :
     -- nor does one begin the end
     unended_by : CallsNext allows old client (mark_of context) new left (mark_of context')
         → IsUnended (log_of old) → IsUnended (log_of new)
-    unended_by (TakesNext.leads which comes (place.Behind last) to turn) none =
+    unended_by (TakesNext.leads before which comes (place.Behind last) to turn) none =
         unended_more (log_of old) (log_of new) turn.e which turn.calls.log turn.hook
         (opens_by old.at (is_some old.session.modules) which comes).1 none
-    unended_by (TakesNext.leads which comes (place.Ended how) to turn) none =
+    unended_by (TakesNext.leads before which comes (place.Ended how) to turn) none =
         unended_more (log_of old) (log_of new) turn.0.e which turn.0.calls.log turn.0.hook
         (opens_by old.at (is_some old.session.modules) which comes).1 none
-    unended_by (TakesNext.leads which comes place.Lost to turn) none =
+    unended_by (TakesNext.leads before which comes place.Lost to turn) none =
         subst (λ (l : List LogEntry). IsUnended l) (sym turn) none
-    unended_by (TakesNext.names was peer to names) none =
-        unended_more (log_of old) (log_of new) names.turn.e hook.UpstreamPeer names.turn.calls.log
-        names.turn.hook refl none
+    unended_by (TakesNext.tried t) none =
+        unended_more (log_of old) (log_of new) t.turn.e t.which t.turn.calls.log t.turn.hook
+        (opens_by old.at (is_some old.session.modules) t.which t.comes).1 none
     unended_by (TakesNext.lost to same) none =
         subst (λ (l : List LogEntry). IsUnended l) (sym same) none
 
     pub unended : IsUnended (log_of old) → IsUnended (log_of new)
     unended none = unended_by turns none
 
+    -- nor tells one of an attempt without a link
+    refusals_by : CallsNext allows old client (mark_of context) new left (mark_of context')
+        → refusals_in (log_of new) ≡ refusals_in (log_of old)
+    refusals_by (TakesNext.leads before which comes (place.Behind last) to turn) =
+        ap (λ (l : List LogEntry). refusals_in l) turn.calls.log
+        ∙ refusals_still (log_of old) turn.e which turn.hook
+        (opens_by old.at (is_some old.session.modules) which comes).2
+    refusals_by (TakesNext.leads before which comes (place.Ended how) to turn) =
+        ap (λ (l : List LogEntry). refusals_in l) turn.0.calls.log
+        ∙ refusals_still (log_of old) turn.0.e which turn.0.hook
+        (opens_by old.at (is_some old.session.modules) which comes).2
+    refusals_by (TakesNext.leads before which comes place.Lost to turn) =
+        ap (λ (l : List LogEntry). refusals_in l) turn
+    refusals_by (TakesNext.tried t) =
+        ap (λ (l : List LogEntry). refusals_in l) t.turn.calls.log
+        ∙ refusals_still (log_of old) t.turn.e t.which t.turn.hook
+        (opens_by old.at (is_some old.session.modules) t.which t.comes).2
+    refusals_by (TakesNext.lost to same) = ap (λ (l : List LogEntry). refusals_in l) same
+
+    pub refusals : refusals_in (log_of new) ≡ refusals_in (log_of old)
+    refusals = refusals_by turns
+
     -- ---- the request goes on
 
-    -- a hook was called that queued nothing, behind which the request goes on
-    record Goes (a : At K C) : Type 0 where
+    -- a hook was called that queued nothing, behind which the request goes on; where a hook before
+    -- the attempts comes next, so did this one
+    record Advanced (a : At K C) : Type 0 where
       which : Hook
+      other : same_hook hook.FailToConnect which ≡ false
       turn : Turns allows which (station_at old.at) (station_at a) QueuesNothing
           (seen_with old client) (mark_of context) (seen_with new left) (mark_of context')
       goes : GoesOn a
       tells : TellsPeer a (log_of new)
+      before : is_before a ≡ true → is_before old.at ≡ true
 
-    names_peer : (peer : Peer) → IsNaming peer → IsNamed (log_of new) peer
-    names_peer peer n =
-        ap (λ (l : List LogEntry). peer_in l) n.names.turn.calls.log
-        ∙ peer_last (log_of old) n.names.turn.e peer
-        (names_one n.names.turn.e peer n.names.turn.hook n.names.output)
+    -- behind one before the attempts
+    goes_behind : (p : Place K) → is_before old.at ≡ true → (which : Hook)
+        → same_hook hook.FailToConnect which ≡ false
+        → TurnsTo allows which (station_at old.at) (seen_with old client) (mark_of context)
+        (seen_with new left) (mark_of context') p
+        → leads_to p ≡ led.GoesOn → Advanced (at.Opening p)
+    goes_behind (place.Behind last) before which other turn goes = record {
+      which = which;
+      other = other;
+      turn = turn;
+      goes = tt;
+      tells = tt;
+      before = λ still. before;
+    }
+    goes_behind (place.Ended end.Attempts) before which other turn goes = record {
+      which = which;
+      other = other;
+      turn = turn.0;
+      goes = tt;
+      tells = tt;
+      before = λ still. before;
+    }
+    goes_behind (place.Ended end.Answered) before which other turn goes = cc
+    goes_behind (place.Ended end.Purge) before which other turn goes = cc
+    goes_behind (place.Ended end.Declined) before which other turn goes = cc
+    goes_behind (place.Ended (end.Unwritten why)) before which other turn goes = cc
+    goes_behind (place.Ended (end.Failed error)) before which other turn goes = record {
+      which = which;
+      other = other;
+      turn = turn.0;
+      goes = tt;
+      tells = record {
+        before = log_of old;
+        last = turn.0.e;
+        is_last = turn.0.calls.log;
+        error = turn.1;
+      };
+      before = λ still. before;
+    }
+    goes_behind place.Lost before which other turn goes = cc
 
-    goes_by : (a : At K C) → new.at ≡ a → leads_at a ≡ led.GoesOn → Goes a
-    goes_by (at.Kept kept) is goes = cc
-    goes_by (at.Opening (place.Behind last)) is goes =
-        let t = turned (place.Behind last) is (λ lost. cc) in
-        record { which = t.which; turn = t.turn; goes = tt; tells = tt }
-    goes_by (at.Opening (place.Ended end.Attempts)) is goes =
-        let t = turned (place.Ended end.Attempts) is (λ lost. cc) in
-        record { which = t.which; turn = t.turn.0; goes = tt; tells = tt }
-    goes_by (at.Opening (place.Ended end.Answered)) is goes = cc
-    goes_by (at.Opening (place.Ended end.Purge)) is goes = cc
-    goes_by (at.Opening (place.Ended end.Declined)) is goes = cc
-    goes_by (at.Opening (place.Ended (end.Unwritten why))) is goes = cc
-    goes_by (at.Opening (place.Ended (end.Failed error))) is goes =
-        let t = turned (place.Ended (end.Failed error)) is (λ lost. cc) in
-        record {
-          which = t.which;
-          turn = t.turn.0;
-          goes = tt;
-          tells = record {
-            before = log_of old;
-            last = t.turn.0.e;
-            is_last = t.turn.0.calls.log;
-            error = t.turn.1;
-          };
-        }
-    goes_by (at.Opening place.Lost) is goes = cc
-    goes_by (at.Named peer) is goes =
-        let n = named_by turns peer is in
-        record {
-          which = hook.UpstreamPeer;
-          turn = subst (λ (a : At K C). Turns allows hook.UpstreamPeer (station_at a) station.named QueuesNothing
-              (seen_with old client) (mark_of context) (seen_with new left) (mark_of context'))
-              (sym n.was) n.names.turn;
-          goes = tt;
-          tells = names_peer peer n;
-        }
-    goes_by at.Linked is goes = absurd (unlinked_by turns is)
-    goes_by (at.Treated error) is goes = cc
-    goes_by (at.Closing held there) is goes = cc
+    goes_by : CallsNext allows old client (mark_of context) new left (mark_of context')
+        → leads_at new.at ≡ led.GoesOn → Advanced new.at
+    goes_by (TakesNext.leads before which comes there to turn) goes =
+        subst (λ (a : At K C). Advanced a) (sym to)
+        (goes_behind there before which
+        (opens_by old.at (is_some old.session.modules) which comes).2 turn
+        (sym (ap (λ (a : At K C). leads_at a) to) ∙ goes))
+    goes_by (TakesNext.tried t) goes = record {
+      which = t.which;
+      other = (opens_by old.at (is_some old.session.modules) t.which t.comes).2;
+      turn = t.turn;
+      goes = t.goes;
+      tells = t.tells;
+      before = λ still. absurd (true≢false (sym still ∙ t.past));
+    }
+    goes_by (TakesNext.lost to same) goes =
+        let clash : led.OutOfMemory ≡ led.GoesOn =
+        sym (ap (λ (a : At K C). leads_at a) to) ∙ goes in cc
 
-    pub opening_on : (tries : List AttemptRecord) → is_calling old.at ≡ true
-        → leads_at new.at ≡ led.GoesOn
+    pub opening_on : (tries : List AttemptRecord) → leads_at new.at ≡ led.GoesOn
         → IsOpening allows mark_of old context client tries
         → IsOpening allows mark_of new context' left tries
-    opening_on tries due goes o =
-        let g = goes_by new.at refl goes in
+    opening_on tries goes o =
+        let g = goes_by turns goes in
         record {
           first = o.first;
           mark = o.mark;
@@ -380,20 +386,20 @@ module _ {C M K : Type 0} (allows : Standing → LogEntry → Type 0) (mark_of :
               o.so_far g.turn;
           goes = g.goes;
           named = g.tells;
-          untried = λ still. o.untried (unnamed old.at due);
+          untried = λ still. o.untried (g.before still);
           untreated = untreated o.untreated;
           unanswered = ap (λ (x : Writing). has_head x.place) g.turn.queued.same ∙ o.unanswered;
           unended = unended o.unended;
         }
 
     pub goes_connecting : leads_at new.at ≡ led.GoesOn → (s : Start) (q : Passed)
-        (w : World) (tries : List AttemptRecord) → tries ≡ []
+        (w : World) (tries : List AttemptRecord)
         → IsConnecting (opened_to s (log_of old)) q w client tries
         → IsConnecting (opened_to s (log_of new)) q w left tries
-    goes_connecting goes s q w tries none k =
-        let g = goes_by new.at refl goes in
+    goes_connecting goes s q w tries k =
+        let g = goes_by turns goes in
         stays_connecting allows old new client left (mark_of context) (mark_of context')
-        g.which (station_at old.at) (station_at new.at) g.turn s q w tries (inl none) k
+        g.which (station_at old.at) (station_at new.at) g.turn s q w tries g.other k
 
     -- ---- it does not
 
@@ -412,6 +418,7 @@ module _ {C M K : Type 0} (allows : Standing → LogEntry → Type 0) (mark_of :
       pub text : List ℕ
       pub is_open : left.writing.output ≡ outgoing.Open text
       pub owed : IsOwedAhead (opened_to s (log_of new)) q None text
+      pub before : is_before old.at ≡ true
 
     answered_by : (p : Place K) → new.at ≡ at.Opening p → leads_to p ≡ led.Answered → (s : Start)
         (q : Passed) (w : World) (tries : List AttemptRecord)
@@ -420,7 +427,7 @@ module _ {C M K : Type 0} (allows : Standing → LogEntry → Type 0) (mark_of :
     answered_by p is leads s q w tries o k =
         let done = done_of p leads in
         let t = turned (place.Ended done.how)
-        (is ∙ ap (λ (x : Place K). at.Opening x) done.is) (λ lost. cc) in
+        (is ∙ ap (λ (x : Place K). at.Opening x) done.is) (λ lost. cc) done.over in
         let waits : IsOpen left.writing.output =
         end_open done.how client.writing left.writing t.turn.0.e.wrote t.turn.0.queued
         ([], (k.begins k.head false).output) in
@@ -432,6 +439,7 @@ module _ {C M K : Type 0} (allows : Standing → LogEntry → Type 0) (mark_of :
               done.answers done.at
               (order_on tries t.turn.0.e (end_station done.how) t.turn.0.calls.log t.turn.0.order o)
               waits.1 k;
+          before = t.before;
         }
 
     answered_at : (a : At K C) → new.at ≡ a → leads_at a ≡ led.Answered → (s : Start)
@@ -441,6 +449,8 @@ module _ {C M K : Type 0} (allows : Standing → LogEntry → Type 0) (mark_of :
     answered_at (at.Kept kept) is leads s q w tries o k = cc
     answered_at (at.Opening p) is leads s q w tries o k = answered_by p is leads s q w tries o k
     answered_at (at.Named peer) is leads s q w tries o k = cc
+    answered_at (at.Repeatable error) is leads s q w tries o k = cc
+    answered_at at.Warning is leads s q w tries o k = cc
     answered_at at.Linked is leads s q w tries o k = cc
     answered_at (at.Treated error) is leads s q w tries o k = cc
     answered_at (at.Closing held there) is leads s q w tries o k = cc
@@ -466,7 +476,8 @@ module _ {C M K : Type 0} (allows : Standing → LogEntry → Type 0) (mark_of :
         → IsConnecting (opened_to s (log_of old)) q w client tries → IsPurge s q
     purged_place p is leads s q w tries o k =
         let t = turned (place.Ended end.Purge)
-        (is ∙ ap (λ (x : Place K). at.Opening x) (purge_of p leads)) (λ lost. cc) in
+        (is ∙ ap (λ (x : Place K). at.Opening x) (purge_of p leads)) (λ lost. cc)
+        (λ goes. goes) in
         let begins = k.begins k.head false in
         let same : left.writing ≡ client.writing = t.turn.0.queued.same in
         record {
@@ -487,6 +498,8 @@ module _ {C M K : Type 0} (allows : Standing → LogEntry → Type 0) (mark_of :
     purged_at (at.Kept kept) is leads s q w tries o k = cc
     purged_at (at.Opening p) is leads s q w tries o k = purged_place p is leads s q w tries o k
     purged_at (at.Named peer) is leads s q w tries o k = cc
+    purged_at (at.Repeatable error) is leads s q w tries o k = cc
+    purged_at at.Warning is leads s q w tries o k = cc
     purged_at at.Linked is leads s q w tries o k = cc
     purged_at (at.Treated error) is leads s q w tries o k = cc
     purged_at (at.Closing held there) is leads s q w tries o k = cc
@@ -502,14 +515,14 @@ module _ {C M K : Type 0} (allows : Standing → LogEntry → Type 0) (mark_of :
     counts_by : CallsNext allows old client (mark_of context) new left (mark_of context')
         → (work : Work) → (new.at ≡ at.Opening place.Lost → ⊥) → work.called ≤ 1
         → CountsCalls old new work
-    counts_by (TakesNext.leads which comes (place.Behind last) to turn) work known once =
+    counts_by (TakesNext.leads before which comes (place.Behind last) to turn) work known once =
         one_called old new work once turn.e turn.calls.log
-    counts_by (TakesNext.leads which comes (place.Ended how) to turn) work known once =
+    counts_by (TakesNext.leads before which comes (place.Ended how) to turn) work known once =
         one_called old new work once turn.0.e turn.0.calls.log
-    counts_by (TakesNext.leads which comes place.Lost to turn) work known once =
+    counts_by (TakesNext.leads before which comes place.Lost to turn) work known once =
         absurd (known to)
-    counts_by (TakesNext.names was peer to names) work known once =
-        one_called old new work once names.turn.e names.turn.calls.log
+    counts_by (TakesNext.tried t) work known once =
+        one_called old new work once t.turn.e t.turn.calls.log
     counts_by (TakesNext.lost to same) work known once = absurd (known to)
 
     pub counts_called : (work : Work) → (new.at ≡ at.Opening place.Lost → ⊥) → work.called ≤ 1
@@ -519,13 +532,13 @@ module _ {C M K : Type 0} (allows : Standing → LogEntry → Type 0) (mark_of :
     -- out of memory there is an entry more or none, and none is counted
     memory_by : CallsNext allows old client (mark_of context) new left (mark_of context')
         → (work : Work) → work.called ≡ 0 → CountsCalls old new work
-    memory_by (TakesNext.leads which comes (place.Behind last) to turn) work none =
+    memory_by (TakesNext.leads before which comes (place.Behind last) to turn) work none =
         one_called old new work (omega (arith, none)) turn.e turn.calls.log
-    memory_by (TakesNext.leads which comes (place.Ended how) to turn) work none =
+    memory_by (TakesNext.leads before which comes (place.Ended how) to turn) work none =
         one_called old new work (omega (arith, none)) turn.0.e turn.0.calls.log
-    memory_by (TakesNext.leads which comes place.Lost to turn) work none = none_called old new work none turn
-    memory_by (TakesNext.names was peer to names) work none =
-        one_called old new work (omega (arith, none)) names.turn.e names.turn.calls.log
+    memory_by (TakesNext.leads before which comes place.Lost to turn) work none = none_called old new work none turn
+    memory_by (TakesNext.tried t) work none =
+        one_called old new work (omega (arith, none)) t.turn.e t.turn.calls.log
     memory_by (TakesNext.lost to same) work none = none_called old new work none same
 
     pub memory_called : (work : Work) → work.called ≡ 0 → CountsCalls old new work
@@ -535,20 +548,16 @@ module _ {C M K : Type 0} (allows : Standing → LogEntry → Type 0) (mark_of :
     logged_by : CallsNext allows old client (mark_of context) new left (mark_of context')
         → (tries : List AttemptRecord) → IsOpening allows mark_of old context client tries
         → (at : Station) × IsLogged allows (log_of new) at
-    logged_by (TakesNext.leads which comes (place.Behind last) to turn) tries o =
+    logged_by (TakesNext.leads before which comes (place.Behind last) to turn) tries o =
         (_, logged_more allows mark_of old new context context' client left tries which _ _ turn o)
-    logged_by (TakesNext.leads which comes (place.Ended how) to turn) tries o =
+    logged_by (TakesNext.leads before which comes (place.Ended how) to turn) tries o =
         (_, logged_more allows mark_of old new context context' client left tries which _ _ turn.0 o)
-    logged_by (TakesNext.leads which comes place.Lost to turn) tries o =
+    logged_by (TakesNext.leads before which comes place.Lost to turn) tries o =
         logged_same allows mark_of old new context client tries turn o
-    logged_by (TakesNext.names was peer to names) tries o = (
-      station.named,
-      logged_more allows mark_of old new context context' client left tries
-          hook.UpstreamPeer station.named QueuesNothing
-          (subst (λ (a : At K C). Turns allows hook.UpstreamPeer (station_at a) station.named
-          QueuesNothing
-          (seen_with old client) (mark_of context) (seen_with new left) (mark_of context'))
-          (sym was) names.turn) o,
+    logged_by (TakesNext.tried t) tries o = (
+      station_at new.at,
+      logged_more allows mark_of old new context context' client left tries t.which
+          (station_at new.at) QueuesNothing t.turn o,
     )
     logged_by (TakesNext.lost to same) tries o =
         logged_same allows mark_of old new context client tries same o
@@ -566,7 +575,7 @@ module _ {C M K : Type 0} (allows : Standing → LogEntry → Type 0) (mark_of :
     owing_by p is leads tries o =
         let done = done_of p leads in
         let t = turned (place.Ended done.how)
-        (is ∙ ap (λ (x : Place K). at.Opening x) done.is) (λ lost. cc) in
+        (is ∙ ap (λ (x : Place K). at.Opening x) done.is) (λ lost. cc) done.over in
         let order : Accepts station.accepted (log_of new) station.answered =
         subst (λ (a : Station). Accepts station.accepted (log_of new) a) done.at
         (order_on tries t.turn.0.e (end_station done.how) t.turn.0.calls.log t.turn.0.order o) in
@@ -599,6 +608,8 @@ module _ {C M K : Type 0} (allows : Standing → LogEntry → Type 0) (mark_of :
     owing_at (at.Kept kept) is leads tries o = cc
     owing_at (at.Opening p) is leads tries o = owing_by p is leads tries o
     owing_at (at.Named peer) is leads tries o = cc
+    owing_at (at.Repeatable error) is leads tries o = cc
+    owing_at at.Warning is leads tries o = cc
     owing_at at.Linked is leads tries o = cc
     owing_at (at.Treated error) is leads tries o = cc
     owing_at (at.Closing held there) is leads tries o = cc
@@ -617,10 +628,10 @@ module _ {C M K : Type 0} (allows : Standing → LogEntry → Type 0) (mark_of :
     unheard_by p is leads tries other e o =
         let purges = purge_of p leads in
         let t = turned (place.Ended end.Purge)
-        (is ∙ ap (λ (x : Place K). at.Opening x) purges) (λ lost. cc) in
+        (is ∙ ap (λ (x : Place K). at.Opening x) purges) (λ lost. cc) (λ goes. goes) in
         subst (λ (a : At K C). EndsBy allows mark_of a new other (Some e)) (sym is) (
           memory_logged tries o,
-          inl (order_on tries t.turn.0.e station.purging t.turn.0.calls.log t.turn.0.order o),
+          order_on tries t.turn.0.e station.purging t.turn.0.calls.log t.turn.0.order o,
         )
 
     unheard_at : (a : At K C) → new.at ≡ a → leads_at a ≡ led.Purges → (tries : List AttemptRecord)
@@ -629,6 +640,8 @@ module _ {C M K : Type 0} (allows : Standing → LogEntry → Type 0) (mark_of :
     unheard_at (at.Kept kept) is leads tries other e o = cc
     unheard_at (at.Opening p) is leads tries other e o = unheard_by p is leads tries other e o
     unheard_at (at.Named peer) is leads tries other e o = cc
+    unheard_at (at.Repeatable error) is leads tries other e o = cc
+    unheard_at at.Warning is leads tries other e o = cc
     unheard_at at.Linked is leads tries other e o = cc
     unheard_at (at.Treated error) is leads tries other e o = cc
     unheard_at (at.Closing held there) is leads tries other e o = cc

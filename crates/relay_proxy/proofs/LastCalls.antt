@@ -7,11 +7,10 @@
 --   answered_owing              its error was answered
 --   finished_come               its exchange finished
 use Rattle.std.specs.Global.{Box}
-use Rattle.std.proofs.Common.{◌≡◌, ◌⊎◌, ℕ, Bool, true, false, ◌||◌, List, [], ◌∷◌, ◌++◌, length, append-nil, arith, Option, None, Some, refl, sym, ap, subst, ◌∙◌, true≢false, inl, inr}
-use Rattle.std.specs.Prelude.{IsTrue, map, filter, unwrap_or, if◌then◌else◌}
+use Rattle.std.proofs.Common.{◌≡◌, ◌⊎◌, ℕ, Bool, true, false, ◌||◌, List, [], ◌∷◌, ◌++◌, length, arith, Option, None, Some, refl, sym, ap, subst, ◌∙◌, true≢false, inl, inr}
+use Rattle.std.specs.Prelude.{unwrap_or}
 use Rattle.std.specs.List.{list_any}
-use Rattle.std.proofs.lemmas.List.Folds.{list_any-append}
-use Rattle.relay_tasks.specs.Head.{RequestHead, new_request}
+use Rattle.relay_tasks.specs.Head.{new_request}
 use Rattle.relay_tasks.specs.Hooks.{same_hook}
 use Rattle.relay_tasks.specs.declared.Error.{Error}
 use Rattle.relay_tasks.specs.declared.ErrorSource.TheVariants.{Downstream}
@@ -40,8 +39,8 @@ use Rattle.relay_closing.specs.declared.place.Place.{Place}
 use Rattle.relay_closing.specs.declared.place.Place.TheVariants as closing
 use Rattle.relay_closing.specs.declared.place.Stage.{Stage}
 use Rattle.relay_closing.specs.declared.place.Stage.TheVariants as stage
-use Rattle.relay_proxy.specs.Calls.{CallsSoFar, BreaksAt, CameIn, CountsCalls, EndsBy, HasAnswered, HasClosed, HasCome, HasFinished, IsBreaking, IsLogged, IsOpening, IsOwing, IsRelayingCalls, IsUnended, IsUnheard, KeepsCalls, KeepsValue, Owing, OwesIn, ShowsSame, StandsAt, StandsBy, closed_with, ended_with, log_of, seen_with, station_at}
-use Rattle.relay_proxy.specs.ClosingHooks.{IsLeftUnheard, failed_with}
+use Rattle.relay_proxy.specs.Calls.{CallsSoFar, BreaksAt, CameIn, CountsCalls, EndsBy, HasAnswered, HasClosed, HasCome, HasFinished, IsBreaking, IsLackingCalls, IsLogged, IsOpening, IsOwing, IsRelayingCalls, IsUnended, IsUnheard, KeepsCalls, KeepsValue, Owing, OwesIn, ShowsSame, StandsAt, StandsBy, closed_with, ended_with, log_of, seen_with, station_at}
+use Rattle.relay_proxy.specs.ClosingHooks.{failed_with}
 use Rattle.relay_proxy.specs.Endings.{error_of}
 use Rattle.relay_proxy.specs.Owed.{outcome_failed, outcome_owed}
 use Rattle.relay_proxy.specs.Passed.{begins_end}
@@ -138,7 +137,9 @@ module _ {C M K : Type 0} (allows : Standing → LogEntry → Type 0) (mark_of :
       → EndsBy allows mark_of a calls client e → (at : Station) × IsLogged allows (log_of calls) at
   ends_logged (at.Kept kept) calls client e ends = absurd ends
   ends_logged (at.Opening there) calls client e ends = ends.0
-  ends_logged (at.Named peer) calls client e ends = ends.0
+  ends_logged (at.Named peer) calls client e ends = absurd ends
+  ends_logged (at.Repeatable treated) calls client e ends = absurd ends
+  ends_logged at.Warning calls client e ends = absurd ends
   ends_logged at.Linked calls client e ends = absurd ends
   ends_logged (at.Treated error) calls client e ends = absurd ends
   ends_logged (at.Closing held there) calls client e ends =
@@ -227,8 +228,9 @@ module _ {C M K : Type 0} (allows : Standing → LogEntry → Type 0) (mark_of :
   ends_shown (at.Kept kept) calls now client left e shown same ends = absurd ends
   ends_shown (at.Opening there) calls now client left e shown same ends =
       subst (λ (l : List LogEntry). IsUnheard allows l) (sym (ap (λ (k : Seen). k.log) shown)) ends
-  ends_shown (at.Named peer) calls now client left e shown same ends =
-      subst (λ (l : List LogEntry). IsUnheard allows l) (sym (ap (λ (k : Seen). k.log) shown)) ends
+  ends_shown (at.Named peer) calls now client left e shown same ends = absurd ends
+  ends_shown (at.Repeatable treated) calls now client left e shown same ends = absurd ends
+  ends_shown at.Warning calls now client left e shown same ends = absurd ends
   ends_shown at.Linked calls now client left e shown same ends = absurd ends
   ends_shown (at.Treated error) calls now client left e shown same ends = absurd ends
   ends_shown (at.Closing held there) calls now client left e shown same ends =
@@ -249,7 +251,9 @@ module _ {C M K : Type 0} (allows : Standing → LogEntry → Type 0) (mark_of :
       → EndsBy allows mark_of a calls left e
   ends_waiting (at.Kept kept) calls client left e same ends = absurd ends
   ends_waiting (at.Opening there) calls client left e same ends = ends
-  ends_waiting (at.Named peer) calls client left e same ends = ends
+  ends_waiting (at.Named peer) calls client left e same ends = absurd ends
+  ends_waiting (at.Repeatable treated) calls client left e same ends = absurd ends
+  ends_waiting at.Warning calls client left e same ends = absurd ends
   ends_waiting at.Linked calls client left e same ends = absurd ends
   ends_waiting (at.Treated error) calls client left e same ends = absurd ends
   ends_waiting (at.Closing held there) calls client left e same ends =
@@ -319,8 +323,10 @@ module _ {C M K : Type 0} (allows : Standing → LogEntry → Type 0) (mark_of :
   ends_failed (at.Kept kept) calls now client left x shown same order open_to ends = absurd ends
   ends_failed (at.Opening there) calls now client left x shown same order open_to ends =
       subst (λ (l : List LogEntry). IsUnheard allows l) (sym (ap (λ (k : Seen). k.log) shown)) ends
-  ends_failed (at.Named peer) calls now client left x shown same order open_to ends =
-      subst (λ (l : List LogEntry). IsUnheard allows l) (sym (ap (λ (k : Seen). k.log) shown)) ends
+  ends_failed (at.Named peer) calls now client left x shown same order open_to ends = absurd ends
+  ends_failed (at.Repeatable treated) calls now client left x shown same order open_to ends =
+      absurd ends
+  ends_failed at.Warning calls now client left x shown same order open_to ends = absurd ends
   ends_failed at.Linked calls now client left x shown same order open_to ends = absurd ends
   ends_failed (at.Treated error) calls now client left x shown same order open_to ends = absurd ends
   ends_failed (at.Closing held there) calls now client left x shown same order open_to ends =
@@ -378,6 +384,7 @@ module _ {L C M K : Type 0} (allows : Standing → LogEntry → Type 0) (mark_of
       → HasCome allows mark_of calls came → CallsSoFar allows mark_of calls next
   in_outcome calls ReadHead came is come = absurd is
   in_outcome calls (Connect context session tries) came is come = absurd is
+  in_outcome calls (Unlinked context session attempts error) came is come = absurd is
   in_outcome calls (Prepare context session link lease) came is come = absurd is
   in_outcome calls (Relay a) came is come = absurd is
   in_outcome calls (Broken context session link lease keep error) came is come = absurd is
@@ -394,6 +401,7 @@ module _ {L C M K : Type 0} (allows : Standing → LogEntry → Type 0) (mark_of
       → CallsSoFar allows mark_of calls next
   in_owing calls ReadHead session owed is o = absurd is
   in_owing calls (Connect context other tries) session owed is o = absurd is
+  in_owing calls (Unlinked context other attempts error) session owed is o = absurd is
   in_owing calls (Prepare context other link lease) session owed is o = absurd is
   in_owing calls (Relay a) session owed is o = absurd is
   in_owing calls (Broken context other link lease keep error) session owed is o = absurd is
@@ -523,6 +531,31 @@ module _ {C M K : Type 0} (allows : Standing → LogEntry → Type 0) (mark_of :
       (subst (λ (a : Station). Accepts station.accepted (log_of c) a) is
       (opening_stands allows mark_of c context client tries o).order) o.unended h
 
+  -- of a request without a link the log is in order
+  pub lacking_logged : (calls : Calls M K C) (context : C) (client : HttpSession)
+      → IsLackingCalls allows mark_of calls context client
+      → (at : Station) × IsLogged allows (log_of calls) at
+  lacking_logged calls context client o = (
+    o.at,
+    record { from = o.from; to = _; walks = o.walks; order = o.order },
+  )
+
+  -- also behind no call more
+  pub lacking_same : (c d : Calls M K C) (context : C) (client : HttpSession)
+      → log_of d ≡ log_of c → IsLackingCalls allows mark_of c context client
+      → (at : Station) × IsLogged allows (log_of d) at
+  lacking_same c d context client same o =
+      subst (λ (l : List LogEntry). (at : Station) × IsLogged allows l at) (sym same)
+      (lacking_logged c context client o)
+
+  -- and the application answered the error of its last attempt
+  pub lacking_ends : (c d : Calls M K C) (context : C) (client left : HttpSession) (e : Error)
+      → (o : IsLackingCalls allows mark_of c context client)
+      → HasAnswered allows mark_of e o.at (seen_with c client) (mark_of context) d left
+      → IsOwing allows mark_of d left (owing.Served e)
+  lacking_ends c d context client left e o h =
+      answered_ends c d context client left e o.from o.at o.walks o.order o.unended h
+
   -- the exchange of an attempt finished: the end begins there
   pub finished_come : {L : Type 0} (a : Attempt L C) (old new : Calls M K C) (came : Outcome)
       → HasFinished a old new came → IsRelayingCalls allows mark_of old a
@@ -553,6 +586,8 @@ module _ {L C M K : Type 0} (allows : Standing → LogEntry → Type 0) (mark_of
   calls_logged calls ReadHead so_far = none_logged allows (log_of calls) so_far
   calls_logged calls (Connect context session tries) so_far =
       opening_logged allows mark_of calls context session.value tries so_far
+  calls_logged calls (Unlinked context session attempts error) so_far =
+      lacking_logged allows mark_of calls context session.value so_far
   calls_logged calls (Prepare context session link lease) so_far =
       opening_logged allows mark_of calls context session.value (tries_in lease) so_far.0
   calls_logged calls (Relay a) so_far = (
@@ -578,6 +613,7 @@ module _ {L C M K : Type 0} (allows : Standing → LogEntry → Type 0) (mark_of
       → CallsSoFar allows mark_of new next
   kept_calls calls new a ReadHead keeps so_far = absurd keeps
   kept_calls calls new a (Connect context session tries) keeps so_far = absurd keeps
+  kept_calls calls new a (Unlinked context session attempts error) keeps so_far = absurd keeps
   kept_calls calls new a (Prepare context session link lease) keeps so_far = absurd keeps
   kept_calls calls new a (Relay b) keeps so_far =
       subst (λ (c : Calls M K C). IsRelayingCalls allows mark_of c b.value) (sym keeps.0) (record {
@@ -628,6 +664,8 @@ module _ {L C M K : Type 0} (allows : Standing → LogEntry → Type 0) (mark_of
       → CallsSoFar allows mark_of calls phase → CallsSoFar allows mark_of new next
   relaying_calls calls new ReadHead next is keeps so_far = absurd (true≢false (sym is))
   relaying_calls calls new (Connect context session tries) next is keeps so_far =
+      absurd (true≢false (sym is))
+  relaying_calls calls new (Unlinked context session attempts error) next is keeps so_far =
       absurd (true≢false (sym is))
   relaying_calls calls new (Prepare context session link lease) next is keeps so_far =
       absurd (true≢false (sym is))

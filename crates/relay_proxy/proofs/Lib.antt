@@ -8,7 +8,9 @@ pub mod FailSteps
 pub mod HeadSteps
 pub mod ClosingSteps
 pub mod ConnectSteps
+pub mod RefusedCalls
 pub mod OpenSteps
+pub mod UnlinkedSteps
 pub mod CallLemmas
 pub mod LastCalls
 pub mod NamedLemmas

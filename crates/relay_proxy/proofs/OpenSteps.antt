@@ -6,12 +6,14 @@
 --   stays_connecting               a call behind which the request goes on
 --   hooks_answer, hooks_stop       calls that end it
 use Rattle.std.specs.Global.{Box}
-use Rattle.std.proofs.Common.{◌≡◌, ℕ, ◌<◌, Bool, true, false, List, [], ◌∷◌, ◌++◌, length, drop, Option, Some, None, refl, sym, ap, subst, ◌∙◌, inl, inr, true≢false, arith, append-nil, unwrap_or, is_some}
+use Rattle.std.proofs.Common.{◌≡◌, ℕ, ◌+◌, ◌<◌, Bool, true, false, List, [], ◌∷◌, ◌++◌, length, drop, map, Option, Some, None, refl, sym, ap, subst, ◌∙◌, inl, inr, true≢false, arith, append-nil, unwrap_or, is_some}
 use Rattle.std.specs.List.{All}
-use Rattle.std.specs.Prelude.{IsSome, ◌⊎◌}
+use Rattle.std.specs.Prelude.{IsSome}
 use Rattle.relay_tasks.specs.Head.{RequestHead, new_request}
 use Rattle.relay_tasks.specs.declared.Error.{Error}
+use Rattle.relay_tasks.specs.Hooks.{same_hook}
 use Rattle.relay_tasks.specs.declared.hook.Hook.{Hook}
+use Rattle.relay_tasks.specs.declared.hook.Hook.TheVariants as hook
 use Rattle.relay_tasks.specs.declared.log.LogEntry.{LogEntry}
 use Rattle.relay_tasks.specs.declared.task.HttpTask.{HttpTask}
 use Rattle.relay_links.specs.Link.{LinkState, LinkStart}
@@ -50,13 +52,12 @@ use Rattle.relay_peer.proofs.FaultLemmas.{grew_same}
 use Rattle.relay_proxy.specs.Calls.{log_of, seen_with}
 use Rattle.relay_closing.specs.Queued.{QueuesOnce}
 use Rattle.relay_proxy.specs.Ahead.{IsAnswerOf, IsOwedAhead, IsStoppedFor}
-use Rattle.relay_proxy.specs.Endings.{IsInOrder, AttemptsUnlinked, EndsAhead, EndsUnlinked}
+use Rattle.relay_proxy.specs.Endings.{IsInOrder, AttemptsFailed, AttemptsUnlinked, EndsAhead, EndsUnlinked, MadeAhead}
 use Rattle.relay_proxy.specs.Passed.{World, Start, asked, closed_to, opened_to, origin_of, IsUnsent, TellsClient}
 use Rattle.relay_proxy.specs.Phases.{IsConnecting, RunSoFar}
 use Rattle.relay_proxy.specs.Relayable.{IsAccepted, IsRelayable}
-use Rattle.relay_proxy.specs.Named.{peer_in}
 use Rattle.relay_proxy.specs.Sent.{IsAnswered, IsUntreated}
-use Rattle.relay_proxy.specs.Tries.{AreTries, IsTry}
+use Rattle.relay_proxy.specs.Tries.{AreTries, IsTry, Refusal, record_of, refusals_in}
 use Rattle.relay_proxy.specs.Turn.{Advances}
 use Rattle.relay_proxy.specs.declared.calls.Calls.{Calls}
 use Rattle.relay_proxy.specs.declared.machine.Phase.{Phase}
@@ -67,29 +68,10 @@ use Rattle.relay_proxy.specs.declared.record.AttemptRecord.{AttemptRecord}
 use Rattle.relay_proxy.proofs.AnswerSteps.{answer_on}
 use Rattle.relay_proxy.proofs.HeadSteps.{StandsBehind, begins_behind}
 use Rattle.relay_proxy.proofs.Tells.{client_still}
+use Rattle.relay_proxy.proofs.NamedLemmas.{refusals_still}
 use Rattle.relay_proxy.proofs.TryLemmas.{no_tries}
 
 -- ---- the same start, once more calls were made
-
--- an attempt at a peer is one, where the calls name the same
-named_try : (these those : List LogEntry) → peer_in those ≡ peer_in these → (a : AttemptRecord)
-    → IsTry these a → IsTry those a
-named_try these those same a try = record {
-  fault = try.fault;
-  kind = try.kind;
-  is_record = record {
-    peer = same ∙ try.is_record.peer;
-    reused = try.is_record.reused;
-    kept = try.is_record.kept;
-    error = try.is_record.error;
-  };
-  again = try.again;
-}
-
--- and so are all of them
-all_named : (these those : List LogEntry) → peer_in those ≡ peer_in these
-    → (tries : List AttemptRecord) → All (IsTry these) tries → All (IsTry those) tries
-all_named these those same tries all = λ k d within. named_try these those same _ (all k d within)
 
 -- what the client's link tells does not depend on the calls
 pub called_tells : (s : Start) (these those : List LogEntry) (p : Passed) (w : World)
@@ -112,12 +94,14 @@ called_accepted s these those p head accepted = record {
   relayable = accepted.relayable;
 }
 
--- nor, where they name the same peer, the attempts that were made
+-- nor, where they tell the same of them, the attempts that were made
 pub called_tries : (s : Start) (these those : List LogEntry) (tries : List AttemptRecord)
-    → peer_in those ≡ peer_in these
+    → refusals_in those ≡ refusals_in these
     → AreTries (opened_to s these) tries → AreTries (opened_to s those) tries
 called_tries s these those tries same are = record {
-  each = all_named these those same tries are.each;
+  told = are.told
+      ∙ ap (λ (rs : List Refusal). map (λ (r : Refusal). record_of r) rs) (sym same);
+  each = subst (λ (rs : List Refusal). All IsTry rs) (sym same) are.each;
   allowed = are.allowed;
 }
 
@@ -140,6 +124,18 @@ closed_accepted s log closed p head accepted = record {
   has = accepted.has;
   relayable = accepted.relayable;
 }
+
+-- nor the attempts that were made
+pub closed_tries : (s : Start) (log closed : List LogEntry) (tries : List AttemptRecord)
+    → AreTries (opened_to s log) tries → AreTries (closed_to s log closed) tries
+closed_tries s log closed tries are =
+    record { told = are.told; each = are.each; allowed = are.allowed }
+
+-- a log of one call tells of none
+lone_untold : (es : List LogEntry) → length es ≡ 1 → refusals_in es ≡ []
+lone_untold [] one = refl
+lone_untold (e ∷ []) one = refl
+lone_untold (e ∷ x ∷ es) one = absurd (omega (arith, one))
 
 -- ---- the session
 
@@ -213,15 +209,16 @@ module _ {M K X : Type 0} (allows : Standing → LogEntry → Type 0) (c d : Cal
         ∙ ap (λ (l : List HttpTask). l ++ (t.e.wrote ++ [])) none
         ∙ append-nil t.e.wrote
 
--- a call that queued nothing leaves a request that wants a link as it stood
-abbrev pub stays_connecting : {M K X : Type 0} (allows : Standing → LogEntry → Type 0) (c d : Calls M K X)
+-- a call that queued nothing leaves a request that wants a link as it stood, with the attempts that
+-- the log tells then
+abbrev pub stays_with : {M K X : Type 0} (allows : Standing → LogEntry → Type 0) (c d : Calls M K X)
     (client left : HttpSession) (mark behind : ℕ) (which : Hook) (from to : Station)
     → Turns allows which from to QueuesNothing (seen_with c client) mark (seen_with d left) behind
-    → (s : Start) (p : Passed) (w : World) (tries : List AttemptRecord)
-    → (tries ≡ []) ⊎ (peer_in (log_of d) ≡ peer_in (log_of c))
+    → (s : Start) (p : Passed) (w : World) (tries attempts : List AttemptRecord)
+    → AreTries (opened_to s (log_of d)) attempts
     → IsConnecting (opened_to s (log_of c)) p w client tries
-    → IsConnecting (opened_to s (log_of d)) p w left tries
-stays_connecting allows c d client left mark behind which from to t s p w tries same k = record {
+    → IsConnecting (opened_to s (log_of d)) p w left attempts
+stays_with allows c d client left mark behind which from to t s p w tries attempts are k = record {
   head = k.head;
   accepted = called_accepted s (log_of c) (log_of d) p k.head k.accepted;
   is_left = left_on allows c d client left mark behind which from to QueuesNothing t k.head
@@ -232,11 +229,23 @@ stays_connecting allows c d client left mark behind which from to t s p w tries 
       (seen_with c client) (seen_with d left) t.calls.reads t.queued.same (k.begins sent reused);
   written = k.written;
   unsent = k.unsent;
-  are_tries = elim same [
-    | inl none ↦ no_tries (opened_to s (log_of d)) tries none
-    | inr peers ↦ called_tries s (log_of c) (log_of d) tries peers k.are_tries
-  ];
+  are_tries = are;
 }
+
+-- and with the same ones, but for a call that tells of an attempt without a link
+abbrev pub stays_connecting : {M K X : Type 0} (allows : Standing → LogEntry → Type 0) (c d : Calls M K X)
+    (client left : HttpSession) (mark behind : ℕ) (which : Hook) (from to : Station)
+    → Turns allows which from to QueuesNothing (seen_with c client) mark (seen_with d left) behind
+    → (s : Start) (p : Passed) (w : World) (tries : List AttemptRecord)
+    → same_hook hook.FailToConnect which ≡ false
+    → IsConnecting (opened_to s (log_of c)) p w client tries
+    → IsConnecting (opened_to s (log_of d)) p w left tries
+stays_connecting allows c d client left mark behind which from to t s p w tries other k =
+    stays_with allows c d client left mark behind which from to t s p w tries tries
+    (called_tries s (log_of c) (log_of d) tries
+    (ap (λ (l : List LogEntry). refusals_in l)
+    (log_on allows c d client left mark behind which from to QueuesNothing t)
+    ∙ refusals_still (log_of c) t.e which t.hook other) k.are_tries) k
 
 -- ---- what waits
 
@@ -419,9 +428,10 @@ error_answered s log closed p w client left tries e stops told queues k =
 -- how one ends that is owed nothing
 owed_nothing : (s : Start) (p : Passed) (w : World) (why : Option Error)
     (tries : List AttemptRecord) → IsOwedAhead s p why [] → IsUntreated s.called
-    → p.written ≡ [] → IsUnsent p → tries ≡ [] → EndsUnlinked s p w (outcome.Served why false)
+    → p.written ≡ [] → IsUnsent p → MadeAhead s why tries
+    → EndsUnlinked s p w (outcome.Served why false)
     × AttemptsUnlinked s p w tries (outcome.Served why false)
-owed_nothing s p w None tries owes untreated written unsent none = (
+owed_nothing s p w None tries owes untreated written unsent made = (
   (
     record {
       why = None;
@@ -433,9 +443,9 @@ owed_nothing s p w None tries owes untreated written unsent none = (
     },
     refl,
   ),
-  none,
+  made,
 )
-owed_nothing s p w (Some e) tries owes untreated written unsent none =
+owed_nothing s p w (Some e) tries owes untreated written unsent made =
     let ends : EndsAhead s p w (Some e) = record {
       why = Some e;
       text = [];
@@ -444,7 +454,7 @@ owed_nothing s p w (Some e) tries owes untreated written unsent none =
       unsent = unsent;
       untreated = untreated;
     } in
-    ((inr ends, refl), inr (none, ends))
+    ((inr ends, refl), AttemptsFailed.ahead ends made)
 
 module _ {L C : Type 0} (state : L → LinkState) (start_at : L → LinkStart) where
   -- a request that goes on behind a call
@@ -470,10 +480,11 @@ module _ {L C : Type 0} (state : L → LinkState) (start_at : L → LinkStart) w
       (w : World) (context : C)
       (client left : Box HttpSession) (tries : List AttemptRecord) (why : Option Error)
       (text : List ℕ) → left.value.writing.output ≡ outgoing.Open text → 0 < length text
-      → IsOwedAhead (closed_to s those xs) p why text → IsUntreated those → tries ≡ []
+      → IsOwedAhead (closed_to s those xs) p why text → IsUntreated those
+      → MadeAhead (closed_to s those xs) why tries
       → RunSoFar {C = C} state start_at (opened_to s these) p w [] (Connect context client tries)
       → Advances {C = C} state start_at (closed_to s those xs) w (Answer left (owed.Ahead why) tries)
-  hooks_owe these those xs s p w context client left tries why text waits some owes untreated none
+  hooks_owe these those xs s p w context client left tries why text waits some owes untreated made
       run =
       answer_on state start_at (closed_to s those xs) p w [] left (owed.Ahead why) tries
       (closed_tells s those xs p w (called_tells s these those p w run.tells)) (record {
@@ -489,18 +500,19 @@ module _ {L C : Type 0} (state : L → LinkState) (start_at : L → LinkStart) w
           some = some;
           joined = ap (λ (xs : List ℕ). xs ++ text) run.holds.written;
         };
-        made = none;
+        made = made;
       })
 
   -- one that is owed nothing has ended
   pub hooks_end : (these those : List LogEntry) (xs : List LogEntry) (s : Start) (p : Passed)
       (w : World) (context : C)
       (client : Box HttpSession) (tries : List AttemptRecord) (why : Option Error)
-      → IsOwedAhead (closed_to s those xs) p why [] → IsUntreated those → tries ≡ []
+      → IsOwedAhead (closed_to s those xs) p why [] → IsUntreated those
+      → MadeAhead (closed_to s those xs) why tries
       → RunSoFar {C = C} state start_at (opened_to s these) p w [] (Connect context client tries)
       → Advances {C = C} state start_at (closed_to s those xs) w
       (Ended (outcome.Served why false) tries)
-  hooks_end these those xs s p w context client tries why owes untreated none run = record {
+  hooks_end these those xs s p w context client tries why owes untreated made run = record {
     passed = p;
     run = record {
       tells = closed_tells s those xs p w (called_tells s these those p w run.tells);
@@ -509,7 +521,7 @@ module _ {L C : Type 0} (state : L → LinkState) (start_at : L → LinkStart) w
       going = λ limit. cc;
       calm = tt;
       holds = owed_nothing (closed_to s those xs) p w why tries owes untreated run.holds.written
-          (record { got = run.holds.unsent.got; sent = run.holds.unsent.sent }) none;
+          (record { got = run.holds.unsent.got; sent = run.holds.unsent.sent }) made;
     };
   }
 
@@ -520,29 +532,30 @@ module _ {L C : Type 0} (state : L → LinkState) (start_at : L → LinkStart) w
       → left.value.writing.output ≡ outgoing.Open text
       → (0 < length (pending left.value.writing.output) → next ≡ Answer left (owed.Ahead why) tries)
       → (pending left.value.writing.output ≡ [] → next ≡ Ended (outcome.Served why false) tries)
-      → IsOwedAhead (closed_to s those xs) p why text → IsUntreated those → tries ≡ []
+      → IsOwedAhead (closed_to s those xs) p why text → IsUntreated those
+      → MadeAhead (closed_to s those xs) why tries
       → RunSoFar {C = C} state start_at (opened_to s these) p w [] (Connect context client tries)
       → Advances {C = C} state start_at (closed_to s those xs) w next
   hooks_leave these those xs s p w context client left tries why [] next is more none owes
-      untreated untried run =
+      untreated made run =
       subst (λ (k : Phase L C). Advances {C = C} state start_at (closed_to s those xs) w k)
       (sym (none (ap pending is)))
-      (hooks_end these those xs s p w context client tries why owes untreated untried run)
+      (hooks_end these those xs s p w context client tries why owes untreated made run)
   hooks_leave these those xs s p w context client left tries why (b ∷ bs) next is more none owes
-      untreated untried run =
+      untreated made run =
       let long : 0 < length (pending left.value.writing.output) =
       omega (arith, ap (λ (o : Outgoing). length (pending o)) is) in
       subst (λ (k : Phase L C). Advances {C = C} state start_at (closed_to s those xs) w k)
       (sym (more long))
       (hooks_owe these those xs s p w context client left tries why (b ∷ bs) is (omega arith) owes
-      untreated untried run)
+      untreated made run)
 
   -- one that was out of memory
   pub hooks_lost : (these those : List LogEntry) (s : Start) (p : Passed) (w : World) (context : C)
-      (client : Box HttpSession) (tries : List AttemptRecord) → tries ≡ []
+      (client : Box HttpSession) (tries : List AttemptRecord) → AreTries (opened_to s those) tries
       → RunSoFar {C = C} state start_at (opened_to s these) p w [] (Connect context client tries)
       → Advances {C = C} state start_at (opened_to s those) w (Ended outcome.OutOfMemory tries)
-  hooks_lost these those s p w context client tries none run = record {
+  hooks_lost these those s p w context client tries are run = record {
     passed = p;
     run = record {
       tells = called_tells s these those p w run.tells;
@@ -552,7 +565,7 @@ module _ {L C : Type 0} (state : L → LinkState) (start_at : L → LinkStart) w
       calm = tt;
       holds = (
         record { got = run.holds.unsent.got; sent = run.holds.unsent.sent },
-        inr (inl (no_tries (opened_to s those) tries none, run.holds.written)),
+        inl (inr (inl (are, run.holds.written))),
       );
     };
   }
@@ -564,13 +577,14 @@ module _ {L C : Type 0} (state : L → LinkState) (start_at : L → LinkStart) w
       (context : C) (client : HttpSession) (left : Box HttpSession) (tries : List AttemptRecord)
       (mark : ℕ) → x.client ≡ w.client → x.ahead ≡ drop len w.ahead
       → x.connect_faults ≡ w.connect_faults → tries ≡ [] → log_of c ≡ []
+      → length (log_of d) ≡ length (log_of c) + 1
       → HasRequest w.ahead head framing len → IsRelayable head → StandsBehind head framing client
       → HasCalled allows (seen_with c client) mark station.accepted station.made QueuesNothing
       (seen_with d left.value) mark
       → RunSoFar {C = C} state start_at (opened_to s (log_of c)) p w [] ReadHead
       → Advances {C = C} state start_at (opened_to s (log_of d)) x (Connect context left tries)
   head_accepted allows c d s p w x head framing len context client left tries mark same_client
-      ahead same none no_log has relayable behind called run =
+      ahead same none no_log one has relayable behind called run =
       record {
         passed = p;
         run = record {
@@ -593,7 +607,9 @@ module _ {L C : Type 0} (state : L → LinkState) (start_at : L → LinkStart) w
                 (ahead ∙ ap (λ (xs : List ℕ). drop len xs) run.holds.whole) behind);
             written = run.holds.written;
             unsent = run.holds.unsent;
-            are_tries = no_tries (opened_to s (log_of d)) tries none;
+            are_tries = no_tries (opened_to s (log_of d)) tries none
+                (lone_untold (log_of d)
+                (one ∙ ap (λ (l : List LogEntry). length l + 1) no_log));
           };
         };
       }

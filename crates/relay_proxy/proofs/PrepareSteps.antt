@@ -8,7 +8,7 @@
 --   begun .. not_begun         its exchange
 use Rattle.std.proofs.Common.{◌≡◌, ℕ, ◌<◌, Bool, false, true, List, [], ◌++◌, length, Option, Some, None, refl, sym, ap, subst, ◌∙◌, inl, inr, arith, true≢false}
 use Rattle.std.specs.Global.{Box}
-use Rattle.std.specs.Prelude.{IsTrue, Result, Ok, Err}
+use Rattle.std.specs.Prelude.{◌↔◌, IsSome, IsTrue, Result, Ok, Err}
 use Rattle.relay_tasks.specs.declared.error.Error.{Error}
 use Rattle.relay_tasks.specs.declared.error.ErrorSource.TheVariants.{Internal}
 use Rattle.relay_tasks.specs.declared.error.Fail.{Fail}
@@ -45,11 +45,12 @@ use Rattle.relay_core.specs.Past.{Origin}
 use Rattle.relay_attempt.specs.Exchange.{IsUnderWay, UpHolds}
 use Rattle.relay_attempt.specs.Passed.{Passed}
 use Rattle.relay_attempt.specs.declared.h1_exchange.H1Exchange.{H1Exchange}
-use Rattle.relay_attempt.specs.Head.{link_of}
-use Rattle.relay_proxy.specs.Calls.{CountsCalls, GoesOn, IsBreaking, IsLogged, IsOpening, IsRelayingCalls, IsUnended, TellsPeer, has_peer, log_of, seen_with, station_at, treated_at}
-use Rattle.relay_proxy.specs.Named.{IsNamed, peer_in}
+use Rattle.relay_attempt.specs.declared.h1_exchange.Unbegun.{Unbegun}
+use Rattle.relay_attempt.specs.Head.{IsRefusedFor, link_of}
+use Rattle.relay_proxy.specs.Calls.{CountsCalls, GoesOn, IsBreaking, IsLogged, IsOpening, IsRelayingCalls, IsUnended, TellsPeer, is_before, log_of, seen_with, station_at, treated_at}
+use Rattle.relay_proxy.specs.Named.{IsNamed}
 use Rattle.relay_proxy.specs.Preparing.{FiltersReady, MakesHead, Prepares, Settles, Unprepared}
-use Rattle.relay_proxy.specs.Sent.{Filters, Sends, RefusesToSend, SettlesFramed, asked_in, client_in, client_of}
+use Rattle.relay_proxy.specs.Sent.{Filters, Sends, RefusesToSend, SettlesFramed, asked_in, client_in, client_of, unframed}
 use Rattle.relay_proxy.specs.Endings.{IsInOrder, EndsLinked}
 use Rattle.relay_proxy.specs.Tries.{AreTries, tries_in}
 use Rattle.relay_proxy.specs.Passed.{World, Start, begins_end, opened_to, origin_of, TellsClient, IsUnsent, IsUntouched}
@@ -69,7 +70,7 @@ use Rattle.relay_proxy.specs.declared.work.Work.{Work}
 use Rattle.relay_proxy.proofs.ConnectSteps.{no_limit, part_relayed}
 use Rattle.relay_proxy.proofs.CallLemmas.{breaks_more, breaks_same, logged_more, logged_same, none_called, one_called, relays_more}
 use Rattle.relay_proxy.proofs.HookSteps.{quiet_twice}
-use Rattle.relay_proxy.proofs.NamedLemmas.{names_none, peer_still}
+use Rattle.relay_proxy.proofs.NamedLemmas.{TellsSame, tells_same, tells_still}
 use Rattle.relay_proxy.proofs.OpenHead.{exchange_open}
 use Rattle.relay_proxy.proofs.OpenSteps.{called_tells, called_tries, stays_connecting}
 use Rattle.relay_proxy.proofs.SentLemmas.{client_is, never_unready}
@@ -77,15 +78,16 @@ use Rattle.relay_proxy.proofs.TreatLemmas.{unended_more, untreated_more}
 
 -- ---- the calls
 
--- a hook that is not the one that names a peer leaves the peer that the log tells
+-- a hook that neither names a peer nor is told of a link that was refused leaves the peer that the
+-- log tells, and the attempts
 pub peers_stay : {M K X : Type 0} (allows : Standing → LogEntry → Type 0) (c d : Calls M K X)
     (client left : HttpSession) (mark behind : ℕ) (which : Hook) (from to : Station)
-    → same_hook hook.UpstreamPeer which ≡ false
+    → same_hook hook.UpstreamPeer which ≡ false → same_hook hook.FailToConnect which ≡ false
     → Turns allows which from to QueuesNothing (seen_with c client) mark (seen_with d left) behind
-    → peer_in (log_of d) ≡ peer_in (log_of c)
-peers_stay allows c d client left mark behind which from to other t =
-    ap (λ (l : List LogEntry). peer_in l) t.calls.log
-    ∙ peer_still (log_of c) t.e (names_none t.e which t.hook other)
+    → TellsSame (log_of c) (log_of d)
+peers_stay allows c d client left mark behind which from to names refuses t =
+    subst (λ (l : List LogEntry). TellsSame (log_of c) l) (sym t.calls.log)
+    (tells_same (log_of c) t.e which t.hook names refuses)
 
 -- a link that was just handed out gave and took nothing since
 pub leased_anew : (s : Start) (p : Passed) (link : LinkState) (start : LinkStart) (lease : Lease)
@@ -103,17 +105,17 @@ leased_anew s p link start lease unsent tries handed peer recorded = record {
   tries = tries;
 }
 
--- it is that of the same peer, once more calls were made that name none
+-- it is that of the same peer, once more calls were made that tell the same of attempts
 pub leased_on : (s : Start) (these those : List LogEntry) (p : Passed) (link : LinkState)
-    (start : LinkStart) (lease : Lease) → peer_in those ≡ peer_in these
+    (start : LinkStart) (lease : Lease) → TellsSame these those
     → IsLeased (opened_to s these) p link start lease
     → IsLeased (opened_to s those) p link start lease
 leased_on s these those p link start lease same leased = record {
   tells = leased.tells;
-  peer = same ∙ leased.peer;
-  recorded = same ∙ leased.recorded;
+  peer = same.peers ∙ leased.peer;
+  recorded = same.peers ∙ leased.recorded;
   reused = leased.reused;
-  tries = called_tries s these those (tries_in lease) same leased.tries;
+  tries = called_tries s these those (tries_in lease) same.refusals leased.tries;
 }
 
 -- ---- what is made of the head
@@ -132,14 +134,14 @@ module _ {M K X : Type 0} (allows : Standing → LogEntry → Type 0) (c d : Cal
     (client left : HttpSession) (mark behind : ℕ) (s : Start) (p : Passed) (w : World)
     (tries : List AttemptRecord) (k : IsConnecting (opened_to s (log_of c)) p w client tries)
   where
-    -- behind a hook that names no peer the request stands as it stood
-    abbrev pub stays_on : (which : Hook) (from to : Station) → same_hook hook.UpstreamPeer which ≡ false
+    -- behind a hook that is not told of a link that was refused the request stands as it stood
+    abbrev pub stays_on : (which : Hook) (from to : Station)
+        → same_hook hook.FailToConnect which ≡ false
         → Turns allows which from to QueuesNothing (seen_with c client) mark (seen_with d left)
         behind
         → IsConnecting (opened_to s (log_of d)) p w left tries
     stays_on which from to other t =
-        stays_connecting allows c d client left mark behind which from to t s p w tries
-        (inr (peers_stay allows c d client left mark behind which from to other t)) k
+        stays_connecting allows c d client left mark behind which from to t s p w tries other k
 
     -- the filter was called on the client's head, made ready
     abbrev pub filters_by : (filtered : RequestHead)
@@ -185,7 +187,7 @@ module _ {M K X : Type 0} (allows : Standing → LogEntry → Type 0) (c d : Cal
     -- why it is not, and how the request stands then
     pub record Refuses (e : Error) : Type 0 where
       pub on : IsConnecting (opened_to s (log_of d)) p w left tries
-      pub same_peers : peer_in (log_of d) ≡ peer_in (log_of c)
+      pub same_peers : TellsSame (log_of c) (log_of d)
       pub why : RefusesToSend (log_of d) on.head true e
 
     pub refuses_as : (e : Error) → Unprepared allows c client mark d left behind e → Refuses e
@@ -197,7 +199,7 @@ module _ {M K X : Type 0} (allows : Standing → LogEntry → Type 0) (c d : Cal
           on = stays_on hook.UpstreamRequestFilter station.linked station.broken refl
               call.call.turn;
           same_peers = peers_stay allows c d client left mark behind hook.UpstreamRequestFilter
-              station.linked station.broken refl call.call.turn;
+              station.linked station.broken refl refl call.call.turn;
           why = RefusesToSend.unfiltered (record {
             before = log_of c;
             last = call.call.turn.e;
@@ -212,7 +214,7 @@ module _ {M K X : Type 0} (allows : Standing → LogEntry → Type 0) (c d : Cal
         record {
           on = stays_on hook.UpstreamRequestFilter station.linked station.sent refl f.call.turn;
           same_peers = peers_stay allows c d client left mark behind hook.UpstreamRequestFilter
-              station.linked station.sent refl f.call.turn;
+              station.linked station.sent refl refl f.call.turn;
           why = RefusesToSend.unsettled filtered (filters_by filtered f)
               (settled_by filtered (Err e) f settles) refl;
         }
@@ -229,7 +231,7 @@ came_alone p none unsent = grind (arith, none, unsent.got, unsent.sent)
 module _ {L C : Type 0} (state : L → LinkState) (start_at : L → LinkStart) where
   -- the link is to go back, not kept, where memory was wanted
   pub link_lost : (these those : List LogEntry) (s : Start) (p : Passed) (w : World) (context : C)
-      (session : Box HttpSession) (link : L) (lease : Lease) → peer_in those ≡ peer_in these
+      (session : Box HttpSession) (link : L) (lease : Lease) → TellsSame these those
       → RunSoFar {C = C} state start_at (opened_to s these) p w []
       (Prepare context session link lease)
       → Advances {C = C} state start_at (opened_to s those) w
@@ -262,7 +264,7 @@ module _ {L C : Type 0} (state : L → LinkState) (start_at : L → LinkStart) w
   -- a hook was called, and the request stands as it stood, its link given
   abbrev pub prepared_on : (these those : List LogEntry) (s : Start) (p : Passed) (w : World)
       (context context' : C) (session session' : Box HttpSession) (link : L) (lease : Lease)
-      → peer_in those ≡ peer_in these
+      → TellsSame these those
       → IsConnecting (opened_to s those) p w session'.value (tries_in lease)
       → RunSoFar {C = C} state start_at (opened_to s these) p w []
       (Prepare context session link lease)
@@ -346,7 +348,7 @@ module _ {L C M K : Type 0} (state : L → LinkState) (start_at : L → LinkStar
         (Close link lease false outcome.OutOfMemory)
     told_lost d log =
         link_lost state start_at (log_of c) (log_of d) s p w context session link lease
-        (ap (λ (l : List LogEntry). peer_in l) log) holds_link
+        (tells_still (log_of c) (log_of d) log) holds_link
 
 module _ {L C M K : Type 0} (state : L → LinkState) (start_at : L → LinkStart)
     (allows : Standing → LogEntry → Type 0) (c d : Calls M K C) (mark behind : ℕ) (s : Start)
@@ -373,7 +375,7 @@ module _ {L C M K : Type 0} (state : L → LinkState) (start_at : L → LinkStar
       run = prepared_on state start_at (log_of c) (log_of d) s p w context context' session session'
           link lease
           (peers_stay allows c d session.value left mark behind hook.ConnectedToUpstream
-          station.named station.linked refl turn)
+          station.named station.linked refl refl turn)
           (subst (λ (h : HttpSession). IsConnecting (opened_to s (log_of d)) p w h (tries_in lease))
           (sym is)
           (stays_on allows c d session.value left mark behind s p w (tries_in lease)
@@ -392,7 +394,7 @@ module _ {L C M K : Type 0} (state : L → LinkState) (start_at : L → LinkStar
           (tries_in lease) run.holds hook.ConnectedToUpstream station.named station.broken refl turn;
       leased = leased_on s (log_of c) (log_of d) p (state link) (start_at link) lease
           (peers_stay allows c d session.value left mark behind hook.ConnectedToUpstream
-          station.named station.broken refl turn) holds.0;
+          station.named station.broken refl refl turn) holds.0;
       fresh = handed;
       why = RefusesToSend.untold (record {
         before = log_of c;
@@ -444,9 +446,9 @@ module _ {L C M K : Type 0} (state : L → LinkState) (start_at : L → LinkStar
         (sends_by allows c d session.value left mark behind s p w (tries_in lease)
         run.holds.1.connecting sent made) (sym is)
       where
-        peers : peer_in (log_of d) ≡ peer_in (log_of c)
+        peers : TellsSame (log_of c) (log_of d)
         peers = peers_stay allows c d session.value left mark behind hook.UpstreamRequestFilter
-            station.linked station.sent refl made.filters.call.turn
+            station.linked station.sent refl refl made.filters.call.turn
 
     -- it is refused
     pub filtered_badly : (e : Error)
@@ -471,11 +473,11 @@ module _ {L C M K : Type 0} (state : L → LinkState) (start_at : L → LinkStar
         (Close link lease false outcome.OutOfMemory)
     filtered_lost (inl log) =
         link_lost state start_at (log_of c) (log_of d) s p w context session link lease
-        (ap (λ (l : List LogEntry). peer_in l) log) run
+        (tells_still (log_of c) (log_of d) log) run
     filtered_lost (inr (filtered, f)) =
         link_lost state start_at (log_of c) (log_of d) s p w context session link lease
         (peers_stay allows c d session.value left mark behind hook.UpstreamRequestFilter
-        station.linked station.sent refl f.call.turn) run
+        station.linked station.sent refl refl f.call.turn) run
 
 -- ---- what the steps to the head come to
 
@@ -540,7 +542,7 @@ module _ {C M K : Type 0} (allows : Standing → LogEntry → Type 0) (mark_of :
       goes = subst (λ (a : At K C). GoesOn a) (sym is) tt;
       named = subst (λ (a : At K C). TellsPeer a (log_of d)) (sym is) tt;
       untried = λ still.
-          absurd (true≢false (sym (ap (λ (a : At K C). has_peer a) is) ∙ still));
+          absurd (true≢false (sym still ∙ ap (λ (a : At K C). is_before a) is));
       untreated = untreated_more (log_of c) (log_of d) turn.e hook.ConnectedToUpstream
           turn.calls.log turn.hook refl o.untreated;
       unanswered = ap (λ (x : Writing). has_head x.place) turn.queued.same ∙ o.unanswered;
@@ -669,6 +671,23 @@ module _ {M K X : Type 0} (allows : Standing → LogEntry → Type 0) (c d : Cal
         one_called c d work (omega (arith, none)) f.call.turn.e f.call.turn.calls.log
 
 -- ---- the exchange
+
+-- an exchange whose head has a framing is not begun for want of memory alone
+pub memory_alone : {L : Type 0} (head : RequestHead) (result : Result (H1Exchange L) (Unbegun L))
+    (left : Unbegun L) → result ≡ Err left
+    → (IsRefusedFor result (fail.Error unframed) ↔ (request_framing head ≡ None))
+    → IsMemoryOr unframed left.why → IsSome (request_framing head) → left.why ≡ fail.OutOfMemory
+memory_alone head result left is refused causes framed = by left.why refl causes
+  where
+    unfounded : (found : Option Framing) → IsSome found → found ≡ None → ⊥
+    unfounded None some none = true≢false (sym some)
+    unfounded (Some framing) some none = cc
+
+    by : (why : Fail) → left.why ≡ why → IsMemoryOr unframed why → left.why ≡ fail.OutOfMemory
+    by fail.OutOfMemory same cause = same
+    by (fail.Error e) same cause =
+        absurd (unfounded (request_framing head) framed
+        (refused.0 (left, is, same ∙ ap (λ (x : Error). fail.Error x) cause)))
 
 module _ {L : Type 0} (state : L → LinkState) (start_at : L → LinkStart) where
   -- an exchange that is under way is over a link that tells what passed

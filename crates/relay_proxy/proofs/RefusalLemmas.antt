@@ -1,13 +1,15 @@
 -- The faults of the connector that a turn answered: that with which it refused a link, or none.
-use Rattle.std.proofs.Common.{◌≡◌, List, [], ◌∷◌, ◌++◌, drop, length, Option, Some, refl, sym, ap, subst, ◌∙◌, append_assoc}
+use Rattle.std.specs.Global.{Box}
+use Rattle.std.proofs.Common.{◌≡◌, ◌⊎◌, ◌+◌, List, [], ◌∷◌, ◌++◌, drop, length, length-append, Option, Some, refl, sym, ap, subst, ◌∙◌, inl, inr, arith, append_assoc}
 use Rattle.std.proofs.Math.Seq.{drop-append_seam}
+use Rattle.relay_session.specs.declared.session.HttpSession.{HttpSession}
+use Rattle.relay_tasks.specs.declared.Error.{Error}
 use Rattle.relay_tasks.specs.declared.Fault.{Fault}
 use Rattle.relay_tasks.specs.declared.fault.FaultKind.{FaultKind}
 use Rattle.relay_links.specs.Connector.{IsConnectFault, connect_fault}
 use Rattle.relay_links.specs.Link.{LinkState, LinkStart}
 use Rattle.relay_links.specs.Told.{Gains}
 use Rattle.relay_links.proofs.GainsLemmas.{Gains-nothing}
-use Rattle.relay_tasks.specs.declared.Error.{Error}
 use Rattle.relay_proxy.specs.Bound.{CountsLink}
 use Rattle.relay_proxy.specs.Refusals.{attempts_in, fault_told, faults_before, faults_told}
 use Rattle.relay_proxy.specs.Turn.{links_held}
@@ -27,27 +29,49 @@ pub none_added : (faults : List Fault) (before after : Option (List Fault)) → 
 none_added faults before after none same =
     subst (λ (fs : List Fault). Gains before fs after) (sym none) (Gains-nothing before after same)
 
--- it gained the fault that it answered
-pub one_added : (fault : Fault) (before after : Option (List Fault)) → IsConnectFault fault
-    → Gains before (fault ∷ []) after → Gains before (connect_fault fault.retry ∷ []) after
-one_added fault before after kind gained =
-    subst (λ (f : Fault). Gains before (f ∷ []) after) (sym (is_its_fault fault kind)) gained
-
 -- the faults of attempts, and of those behind them
 pub told_append : (tries attempts : List AttemptRecord)
     → faults_told (tries ++ attempts) ≡ faults_told tries ++ faults_told attempts
 told_append [] attempts = refl
 told_append (a ∷ tries) attempts =
-    ap (λ (fs : List Fault). fault_told a.error ++ fs) (told_append tries attempts)
-    ∙ sym (append_assoc (fault_told a.error) (faults_told tries) (faults_told attempts))
+    ap (λ (fs : List Fault). fault_told a.fault ++ fs) (told_append tries attempts)
+    ∙ sym (append_assoc (fault_told a.fault) (faults_told tries) (faults_told attempts))
 
--- those of one attempt more, which failed with that error
-pub told_once : (tries attempts : List AttemptRecord) (a : AttemptRecord) (e : Error)
-    → attempts ≡ tries ++ a ∷ [] → a.error ≡ Some e
-    → faults_told attempts ≡ faults_told tries ++ connect_fault e.retry ∷ []
-told_once tries attempts a e are is =
+-- those of one attempt more, which was given no link, with that fault
+pub told_once : (tries attempts : List AttemptRecord) (a : AttemptRecord) (fault : Fault)
+    → attempts ≡ tries ++ a ∷ [] → a.fault ≡ Some fault
+    → faults_told attempts ≡ faults_told tries ++ fault ∷ []
+told_once tries attempts a fault are is =
     ap (λ (xs : List AttemptRecord). faults_told xs) are ∙ told_append tries (a ∷ [])
-    ∙ ap (λ (o : Option Error). faults_told tries ++ (fault_told o ++ [])) is
+    ∙ ap (λ (o : Option Fault). faults_told tries ++ (fault_told o ++ [])) is
+
+-- and those of the phase that follows, in which another attempt is made or its client is answered
+pub told_on : {L C : Type 0} (next : Phase L C) (context : C) (session : Box HttpSession)
+    (attempts : List AttemptRecord) (e : Error) (told : List Fault)
+    → (next ≡ Connect context session attempts) ⊎ (next ≡ Unlinked context session attempts e)
+    → faults_told attempts ≡ told → faults_before [] next ≡ told
+told_on {L = L} {C = C} next context session attempts e told (inl is) all =
+    ap (λ (n : Phase L C). faults_before [] n) is ∙ all
+told_on {L = L} {C = C} next context session attempts e told (inr is) all =
+    ap (λ (n : Phase L C). faults_before [] n) is ∙ all
+
+-- the turn counts an end, and one attempt more
+pub refused_counts : {L C : Type 0} (next : Phase L C) (context : C) (session : Box HttpSession)
+    (tries attempts : List AttemptRecord) (a : AttemptRecord) (e : Error) (work : Work)
+    → work.moved ≡ 0 → work.ended ≡ 1 → attempts ≡ tries ++ a ∷ []
+    → (next ≡ Connect context session attempts) ⊎ (next ≡ Unlinked context session attempts e)
+    → CountsLink tries next work
+refused_counts {L = L} {C = C} next context session tries attempts a e work moved ended are follows =
+    let more : length attempts ≡ 1 + length tries =
+    omega (
+      arith,
+      ap (λ (xs : List AttemptRecord). length xs) are,
+      length-append tries (a ∷ []),
+    ) in
+    elim follows [
+      | inl is ↦ subst (λ (n : Phase L C). CountsLink tries n work) (sym is) (moved, ended, more)
+      | inr is ↦ subst (λ (n : Phase L C). CountsLink tries n work) (sym is) (moved, ended, more)
+    ]
 
 -- a request that holds a link was refused those of the attempts before
 pub told_before_link : {L C : Type 0} (state : L → LinkState) (start_at : L → LinkStart)
@@ -55,6 +79,7 @@ pub told_before_link : {L C : Type 0} (state : L → LinkState) (start_at : L �
     → links_held state start_at phase ≡ 1 → faults_before [] phase ≡ faults_told tries
 told_before_link state start_at tries ReadHead work counts held = absurd counts
 told_before_link state start_at tries (Connect context session again) work counts held = cc
+told_before_link state start_at tries (Unlinked context session attempts error) work counts held = cc
 told_before_link state start_at tries (Prepare context session link lease) work counts held =
     ap (λ (xs : List AttemptRecord). faults_told xs) counts.2
 told_before_link state start_at tries (Relay a) work counts held = absurd counts

@@ -56,7 +56,7 @@ use Rattle.relay_proxy.proofs.UseLemmas.{moved_uses, turned_uses}
 use Rattle.relay_proxy.specs.declared.machine.Attempt.{Attempt}
 use Rattle.relay_proxy.specs.declared.machine.Lease.{Lease}
 use Rattle.relay_proxy.specs.declared.machine.Phase.{Phase}
-use Rattle.relay_proxy.specs.declared.machine.Phase.TheVariants.{ReadHead, Connect, Prepare, Relay, Broken, Close, Answer, Ended}
+use Rattle.relay_proxy.specs.declared.machine.Phase.TheVariants.{ReadHead, Connect, Unlinked, Prepare, Relay, Broken, Close, Answer, Ended}
 use Rattle.relay_proxy.specs.declared.machine.Phase.TheVariants as stage
 use Rattle.relay_proxy.specs.declared.outcome.Outcome.{Outcome}
 use Rattle.relay_proxy.specs.declared.outcome.Outcome.TheVariants.{Served, TurnLimit}
@@ -441,6 +441,7 @@ off_keeps : {L C M K : Type 0} (calls : Calls M K C) (a b : Attempt L C) (next :
     → BreaksOff b.context b.exchange.exchange.down.session next → KeepsCalls a calls calls next
 off_keeps calls a b ReadHead same head off = absurd off
 off_keeps calls a b (Connect context session tries) same head off = absurd off
+off_keeps calls a b (Unlinked context session attempts error) same head off = absurd off
 off_keeps calls a b (Prepare context session link lease) same head off = absurd off
 off_keeps calls a b (Relay k) same head off = absurd off
 off_keeps calls a b (Broken context session link lease keep error) same head off =

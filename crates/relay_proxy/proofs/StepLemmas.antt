@@ -15,7 +15,7 @@ use Rattle.relay_attempt.specs.Passed.{Passed}
 use Rattle.relay_attempt.specs.Head.{link_of}
 use Rattle.relay_proxy.specs.Bound.{IsWithin, LinkGave, OwnGave, PhaseCounts, TurnedCounts, most_sides, sides_before}
 use Rattle.relay_proxy.specs.Passed.{World, Start, origin_of, IsUnsent}
-use Rattle.relay_proxy.specs.Endings.{error_of, IsErrorOf, EndsLinked, EndsUnlinked, AttemptsUnlinked, EndsReturned, EndsWith}
+use Rattle.relay_proxy.specs.Endings.{error_of, IsErrorOf, EndsLinked, EndsUnlinked, AttemptsUnfinished, AttemptsUnlinked, IsHalfRefused, EndsReturned, EndsWith}
 use Rattle.relay_proxy.specs.Owed.{IsGivenBack, IsAnswering, IsHalfGiven}
 use Rattle.relay_proxy.specs.Taken.{Takes, offers_for, offers_before, offers_of_turn}
 use Rattle.relay_proxy.specs.Phases.{IsLeased, IsFailing, IsGoing, IsRelaying, RunSoFar}
@@ -30,7 +30,7 @@ use Rattle.relay_proxy.specs.Work.{added_work}
 use Rattle.relay_proxy.specs.Closing.{Hands, HandsBack, Settles, GivesUp, GivesFailedUp, AnswersOn, Finishes, IsQuietExchange, IsQuiet, Rests, TurnOf, Ends}
 use Rattle.relay_proxy.proofs.FailSteps.{broken_part}
 use Rattle.relay_proxy.proofs.TakenLemmas.{offers_are}
-use Rattle.relay_proxy.proofs.TryLemmas.{no_tries, tries_before}
+use Rattle.relay_proxy.proofs.TryLemmas.{tries_before}
 use Rattle.relay_proxy.proofs.BoundLemmas.{open_counts, within_link}
 use Rattle.relay_proxy.proofs.ConnectSteps.{part_relayed}
 use Rattle.relay_proxy.proofs.AnswerSteps.{answering_of, ends_part, waits_front, waits_left}
@@ -282,6 +282,8 @@ module _ {L C : Type 0} (state : L → LinkState) (start_at : L → LinkStart) w
   }
   settle_run s p w (Connect context session tries) settled before after does run =
       stays s p w (Connect context session tries) settled before after does.0 does.1 refl run
+  settle_run s p w (Unlinked context session attempts error) settled before after does run =
+      stays s p w (Unlinked context session attempts error) settled before after does.0 does.1 refl run
   settle_run s p w (Prepare context session link lease) settled before after does run =
       stays s p w (Prepare context session link lease) settled before after does.0 does.1 refl run
   settle_run s p w (Relay a) settled before after does run =
@@ -324,6 +326,7 @@ module _ {L C : Type 0} (state : L → LinkState) (start_at : L → LinkStart) w
       → (settled ≡ next) × (after ≡ before)
   settles_same ReadHead settled before after does shut = does
   settles_same (Connect context session tries) settled before after does shut = does
+  settles_same (Unlinked context session attempts error) settled before after does shut = does
   settles_same (Prepare context session link lease) settled before after does shut = does
   settles_same (Relay a) settled before after does shut = does
   settles_same (Broken context session link lease keep e) settled before after does shut = does
@@ -340,6 +343,7 @@ module _ {L C : Type 0} (state : L → LinkState) (start_at : L → LinkStart) w
       → (settled ≡ next) ⊎ (OwesAnswer next × OwesAnswer settled)
   settles_live ReadHead settled before after does going = inl does.0
   settles_live (Connect context session tries) settled before after does going = inl does.0
+  settles_live (Unlinked context session attempts error) settled before after does going = inl does.0
   settles_live (Prepare context session link lease) settled before after does going = inl does.0
   settles_live (Relay a) settled before after does going = inl does.0
   settles_live (Broken context session link lease keep e) settled before after does going =
@@ -365,6 +369,7 @@ module _ {L C : Type 0} (state : L → LinkState) (start_at : L → LinkStart) w
       owing : (k : Phase L C) → OwesAnswer k → is_reading_head k ≡ false
       owing ReadHead o = absurd o
       owing (Connect context session tries) o = refl
+      owing (Unlinked context session attempts error) o = refl
       owing (Prepare context session link lease) o = refl
       owing (Relay a) o = refl
       owing (Broken context session link lease keep e) o = refl
@@ -374,6 +379,7 @@ module _ {L C : Type 0} (state : L → LinkState) (start_at : L → LinkStart) w
       owing (Ended outcome attempts) o = refl
   owes_moved w x (Connect context session tries) next settled owes owes' moved =
       inr (inr (inr owes'))
+  owes_moved w x (Unlinked context session attempts error) next settled owes owes' moved = owes'
   owes_moved w x (Prepare context session link lease) next settled owes owes' moved = inr owes'
   owes_moved w x (Relay a) next settled owes owes' moved = inr owes'
   owes_moved w x (Broken context session link lease keep e) next settled owes owes' moved = owes'
@@ -671,6 +677,10 @@ module _ {L C : Type 0} (state : L → LinkState) (start_at : L → LinkStart) w
       turn same rests kept does told takes carries tells run c i j o m adds uses bounds =
       live_on s s' p x (Connect context session tries) next settled before mid after t u h k refl
       (turn run) kept does told takes (carries refl) (tells refl) c i j o m adds uses bounds
+  step_on s s' p [] w x (Unlinked context session attempts error) next settled did before mid after t u h k
+      turn same rests kept does told takes carries tells run c i j o m adds uses bounds =
+      live_on s s' p x (Unlinked context session attempts error) next settled before mid after t u h k refl
+      (turn run) kept does told takes (carries refl) (tells refl) c i j o m adds uses bounds
   step_on s s' p [] w x (Prepare context session link lease) next settled did before mid after t u h k
       turn same rests kept does told takes carries tells run c i j o m adds uses bounds =
       live_on s s' p x (Prepare context session link lease) next settled before mid after t u h k refl
@@ -697,6 +707,9 @@ module _ {L C : Type 0} (state : L → LinkState) (start_at : L → LinkStart) w
       h k turn same rests kept does told takes carries tells run c i j o m adds uses bounds =
       absurd run.holds
   step_on s s' p (r ∷ own) w x (Connect context session tries) next settled did before mid after t u
+      h k turn same rests kept does told takes carries tells run c i j o m adds uses bounds =
+      absurd run.holds
+  step_on s s' p (r ∷ own) w x (Unlinked context session attempts error) next settled did before mid after t u
       h k turn same rests kept does told takes carries tells run c i j o m adds uses bounds =
       absurd run.holds
   step_on s s' p (r ∷ own) w x (Prepare context session link lease) next settled did before mid after t u
@@ -800,14 +813,14 @@ module _ {L C : Type 0} (state : L → LinkState) (start_at : L → LinkStart) w
   unlinked_end : (s : Start) (p : Passed) (w : World) (phase : Phase L C)
       (attempts : List AttemptRecord) (before after : Option (List (Returned L))) (ending : Ending)
       → GivesUp attempts before after ending
-      → RunSoFar state start_at s p w [] phase → IsUnsent p → p.written ≡ [] → AreTries s attempts
+      → RunSoFar state start_at s p w [] phase → IsUnsent p → AttemptsUnfinished s p w attempts
       → (IsStalled state start_at w phase → IsQuiet state start_at s p w [])
       → attempts_in phase ≡ attempts → items_held start_at phase ≡ []
       → ((n : ℕ) → PhaseUses state start_at n [] phase → OwnUses state start_at n [])
       → ((tasks ends : ℕ) → PhaseCounts state start_at tasks ends s w.client w.ahead [] phase
       → (tasks ≡ 0) × (ends ≤ 1 + length attempts))
       → Ends state start_at s p w [] before after phase ending
-  unlinked_end s p w phase attempts before after ending gives run unsent empty are stalled made bare
+  unlinked_end s p w phase attempts before after ending gives run unsent so_far stalled made bare
       asked few =
       record {
         handed = [];
@@ -820,10 +833,8 @@ module _ {L C : Type 0} (state : L → LinkState) (start_at : L → LinkStart) w
               (λ (o : Outcome). EndsUnlinked s p w o × AttemptsUnlinked s p w ending.attempts o)
               (sym gives.limit) (
                 unsent,
-                inr (inl (
-                  subst (λ (l : List AttemptRecord). AreTries s l) (sym gives.made) are,
-                  empty,
-                )),
+                subst (λ (l : List AttemptRecord). AttemptsUnfinished s p w l) (sym gives.made)
+                    so_far,
               );
         };
         refused = ap (λ (l : List AttemptRecord). faults_told l) (gives.made ∙ sym made);
@@ -982,14 +993,23 @@ module _ {L C : Type 0} (state : L → LinkState) (start_at : L → LinkStart) w
       → Ends state start_at s p w own before after phase ending
   end_of s p [] w ReadHead before after ending does run =
       unlinked_end s p w ReadHead [] before after ending does run run.holds.unsent
-      run.holds.written (no_tries s [] refl)
+      (inl (refl, inl run.holds.written))
       (λ h. inl (subst (λ (xs : List ℕ). IsOpen xs) run.holds.whole h.0, h.1)) refl refl
       (λ n asked. asked) (λ tasks ends counted. (counted.0, omega (arith, counted.1)))
   end_of s p [] w (Connect context session tries) before after ending does run =
       unlinked_end s p w (Connect context session tries) tries before after ending does run
-      run.holds.unsent run.holds.written run.holds.are_tries (λ h. absurd h) refl refl
-      (λ n asked. asked)
-      (λ tasks ends counted. (counted.0, omega (arith, counted.1)))
+      run.holds.unsent (inr (inl (run.holds.are_tries, run.holds.written))) (λ h. absurd h) refl
+      refl (λ n asked. asked) (λ tasks ends counted. (counted.0, omega (arith, counted.1)))
+  end_of s p [] w (Unlinked context session attempts error) before after ending does run =
+      let half : IsHalfRefused s p w attempts = record {
+        e = error;
+        unconnected = run.holds.unconnected;
+        made = run.holds.made;
+        part = inl run.holds.written;
+      } in
+      unlinked_end s p w (Unlinked context session attempts error) attempts before after ending does
+      run run.holds.unconnected.unsent (inr (inr (inr half))) (λ h. absurd h) refl refl
+      (λ n asked. asked) (λ tasks ends counted. (counted.0, omega (arith, counted.1)))
   end_of s p [] w (Prepare context session link lease) before after ending does run =
       linked_end s p w (Prepare context session link lease) link lease false before after ending
       TurnLimit does.limit does.back run run.holds.0
@@ -1046,6 +1066,8 @@ module _ {L C : Type 0} (state : L → LinkState) (start_at : L → LinkStart) w
       absurd run.holds
   end_of s p (r ∷ own) w (Connect context session tries) before after ending does run =
       absurd run.holds
+  end_of s p (r ∷ own) w (Unlinked context session attempts error) before after ending does run =
+      absurd run.holds
   end_of s p (r ∷ own) w (Prepare context session link lease) before after ending does run =
       absurd run.holds
   end_of s p (r ∷ own) w (Relay a) before after ending does run = absurd run.holds
@@ -1067,6 +1089,8 @@ module _ {L C : Type 0} (state : L → LinkState) (start_at : L → LinkStart) w
   over_end (Answer session owes attempts) before after ending going does over =
       absurd (true≢false (sym over))
   over_end (Connect context session tries) before after ending going does over =
+      absurd (true≢false (sym over))
+  over_end (Unlinked context session attempts error) before after ending going does over =
       absurd (true≢false (sym over))
   over_end (Prepare context session link lease) before after ending going does over =
       absurd (true≢false (sym over))

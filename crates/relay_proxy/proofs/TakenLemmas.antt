@@ -1,7 +1,7 @@
 -- What is taken of the offers of a connector adds up.
 use Rattle.std.proofs.Common.{◌≡◌, List, [], ◌∷◌, ◌++◌, drop, length, map, Option, Some, None, Ok, Err, option_map, refl, sym, ap, subst, ◌∙◌, append-nil}
 use Rattle.relay_tasks.specs.declared.Fault.{Fault}
-use Rattle.relay_links.specs.Connector.{Offer, IsConnectFault, connect_fault, links_of, Refuses}
+use Rattle.relay_links.specs.Connector.{Offer, links_of, Refuses}
 use Rattle.relay_links.specs.Link.{LinkStart, LinkItems}
 use Rattle.relay_links.specs.Told.{Gains}
 use Rattle.relay_links.proofs.GainsLemmas.{Gains-nothing}
@@ -10,7 +10,6 @@ use Rattle.relay_proxy.specs.Taken.{AreNext, Takes, TakesAfter, offers_before}
 use Rattle.relay_proxy.specs.Refusals.{faults_before}
 use Rattle.relay_proxy.specs.Stock.{items_held, items_back, all_items}
 use Rattle.relay_proxy.specs.declared.machine.Phase.{Phase}
-use Rattle.relay_proxy.proofs.RefusalLemmas.{is_its_fault, one_added}
 
 -- where the connector was not asked nothing is taken
 pub takes_none : (before after : Option (List Offer)) → after ≡ before → Takes before [] after
@@ -96,19 +95,16 @@ took_link had all held items told_before told_after before after same has calm f
 -- it refused one, with a fault that was the first of them or came behind the last
 pub took_fault : (had all : List Fault) (held : List (Option LinkItems)) (fault : Fault)
     (told_before told_after : Option (List Fault)) (before after : Option (List Offer))
-    → all ≡ had ++ connect_fault fault.retry ∷ [] → held ≡ [] → IsConnectFault fault
-    → Gains told_before (fault ∷ []) told_after → Refuses before fault after
+    → all ≡ had ++ fault ∷ [] → held ≡ [] → Gains told_before (fault ∷ []) told_after
+    → Refuses before fault after
     → TakesAfter had all held told_before told_after before after
-took_fault had all held fault told_before told_after before after same none kind told foretold =
-    record {
-      faults = connect_fault fault.retry ∷ [];
-      are = sym same;
-      gained = one_added fault told_before told_after kind told;
-      takes = subst (λ (hs : List (Option LinkItems)).
-          Takes before (Err (connect_fault fault.retry) ∷ map Ok hs) after) (sym none)
-          (subst (λ (f : Fault). Takes before (Err f ∷ []) after) (sym (is_its_fault fault kind))
-          (takes_fault fault before after foretold));
-    }
+took_fault had all held fault told_before told_after before after same none told foretold = record {
+  faults = fault ∷ [];
+  are = sym same;
+  gained = told;
+  takes = subst (λ (hs : List (Option LinkItems)). Takes before (Err fault ∷ map Ok hs) after)
+      (sym none) (takes_fault fault before after foretold);
+}
 
 -- the links among offers that were taken as links alone
 links_alone : (held : List (Option LinkItems)) (offers left : List Offer)

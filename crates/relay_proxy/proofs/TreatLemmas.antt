@@ -9,7 +9,7 @@
 --   filters_on .. refuses_on, sends_on
 --                      what the log told of the head that is sent, behind one treatment more
 --   treats_last        the last call treated that error
-use Rattle.std.proofs.Common.{◌≡◌, ◌⊎◌, Bool, true, false, ◌||◌, ◌&&◌, List, [], ◌∷◌, ◌++◌, Option, Some, refl, sym, ap, subst, ◌∙◌, true≢false, append-nil, append_assoc}
+use Rattle.std.proofs.Common.{◌≡◌, Bool, true, false, ◌||◌, ◌&&◌, List, [], ◌∷◌, ◌++◌, refl, sym, ap, subst, ◌∙◌, true≢false, append-nil, append_assoc}
 use Rattle.std.proofs.lemmas.List.Folds.{list_any-append}
 use Rattle.std.specs.List.{list_any}
 use Rattle.std.specs.Prelude.{if◌then◌else◌}
@@ -20,7 +20,6 @@ use Rattle.relay_tasks.specs.declared.hook.Hook.{Hook}
 use Rattle.relay_tasks.specs.declared.hook.Hook.TheVariants as hook
 use Rattle.relay_tasks.specs.declared.log.Item.TheVariants as item
 use Rattle.relay_tasks.specs.declared.log.LogEntry.{LogEntry}
-use Rattle.relay_authority.specs.declared.upstream.Upstream.TheVariants as over
 use Rattle.relay_phases.specs.Order.{Station, Accepts, accepted}
 use Rattle.relay_proxy.specs.Ahead.{LetsGo, goes_on}
 use Rattle.relay_proxy.specs.Calls.{IsUnended}

@@ -1,68 +1,145 @@
 -- The attempts to which no link was given: none yet, one more, the last, those before it, and how
 -- many there are.
-use Rattle.std.proofs.Common.{◌≡◌, ℕ, ◌<◌, ◌≤◌, true, List, [], ◌∷◌, ◌++◌, length, length-append, None, Some, refl, sym, ap, subst, ◌∙◌, inl, inr, arith}
+use Rattle.std.proofs.Common.{◌≡◌, ◌≢◌, ◌⊎◌, ℕ, ◌<◌, ◌≤◌, Bool, true, false, true≢false, List, [], ◌∷◌, ◌++◌, length, length-append, map, Option, None, Some, refl, sym, ap, subst, ◌∙◌, inl, inr, arith}
 use Rattle.std.specs.List.{All}
 use Rattle.std.proofs.lemmas.List.Elements.{All-append, All-cons, All-nil}
-use Rattle.relay_tasks.specs.Error.{may_retry}
+use Rattle.std.proofs.lemmas.List.{length-map, map-append}
+use Rattle.std.proofs.lemmas.Bool.{cases_lt}
+use Rattle.relay_tasks.specs.Error.{error_of_fault, may_retry}
 use Rattle.relay_tasks.specs.declared.Error.{Error}
-use Rattle.relay_tasks.specs.declared.ErrorSource.TheVariants.{Upstream}
 use Rattle.relay_tasks.specs.declared.Fault.{Fault}
+use Rattle.relay_tasks.specs.declared.Peer.{Peer}
+use Rattle.relay_links.specs.Connector.{IsConnectFault, connect_fault}
 use Rattle.relay_tasks.specs.declared.log.LogEntry.{LogEntry}
-use Rattle.relay_links.specs.Connector.{IsConnectFault}
 use Rattle.relay_links.specs.Link.{LinkState, LinkStart}
 use Rattle.relay_links.specs.declared.Returned.{Returned}
 use Rattle.relay_attempt.specs.Passed.{Passed}
-use Rattle.relay_proxy.specs.Endings.{AttemptsUnfinished, EndsWith}
-use Rattle.relay_proxy.specs.Passed.{World, Start}
-use Rattle.relay_proxy.specs.Tries.{AreTries, EndsTrying, IsFailedRecord, IsTry, MayTry, fault_error, tries_of}
+use Rattle.relay_proxy.specs.Endings.{AttemptsFailed, AttemptsUnfinished, EndsWith, MadeAhead}
+use Rattle.relay_proxy.specs.Passed.{World, Start, opened_to}
+use Rattle.relay_proxy.specs.Tries.{AreTries, EndsTrying, IsRaised, IsRefusedFor, IsTry, LosesTry, MayTry, Refusal, fault_of, record_of, refusals_in, tries_of, unlinked_record, upstream_error}
 use Rattle.relay_proxy.specs.declared.outcome.Outcome.{Outcome}
 use Rattle.relay_proxy.specs.declared.outcome.Outcome.TheVariants.{NoRequest, Refused, Served, TurnLimit, OutOfMemory}
 use Rattle.relay_proxy.specs.declared.record.AttemptRecord.{AttemptRecord}
+use Rattle.relay_proxy.proofs.RefusalLemmas.{is_its_fault}
 
--- a request that made no attempt
-pub no_tries : (s : Start) (tries : List AttemptRecord) → tries ≡ [] → AreTries s tries
-no_tries s tries none = record {
-  each = subst (λ (xs : List AttemptRecord). All (IsTry s.called) xs) (sym none)
-      (All-nil (IsTry s.called));
+-- a request of which no call tells that it was refused a link
+pub no_tries : (s : Start) (tries : List AttemptRecord) → tries ≡ [] → refusals_in s.called ≡ []
+    → AreTries s tries
+no_tries s tries none unrefused = record {
+  told = none ∙ ap (λ (rs : List Refusal). map (λ (r : Refusal). record_of r) rs) (sym unrefused);
+  each = subst (λ (rs : List Refusal). All IsTry rs) (sym unrefused) (All-nil IsTry);
   allowed = λ some. absurd (some none);
 }
 
--- an attempt behind which the connector may be asked again
-is_try : (called : List LogEntry) (a : AttemptRecord) (fault : Fault) (e : Error)
-    → IsConnectFault fault → e ≡ fault_error Upstream fault → IsFailedRecord called a e
-    → may_retry e.retry ≡ true → IsTry called a
-is_try called a fault e kind is failed again = record {
-  fault = fault;
-  kind = kind;
-  is_record = subst (λ (x : Error). IsFailedRecord called a x) is failed;
-  again = ap (λ (x : Error). may_retry x.retry) (sym is) ∙ again;
-}
+-- the attempts are as many as those of which the calls tell
+sized : (s : Start) (attempts : List AttemptRecord)
+    → attempts ≡ map (λ (r : Refusal). record_of r) (refusals_in s.called)
+    → length attempts ≡ length (refusals_in s.called)
+sized s attempts told =
+    ap (λ (xs : List AttemptRecord). length xs) told
+    ∙ length-map (refusals_in s.called) (λ (r : Refusal). record_of r)
+
+-- with one of which a call tells more, there is its record more
+told_more : (s : Start) (these those : List LogEntry) (tries attempts : List AttemptRecord)
+    (r : Refusal) → refusals_in those ≡ refusals_in these ++ r ∷ []
+    → attempts ≡ tries ++ record_of r ∷ [] → AreTries (opened_to s these) tries
+    → attempts ≡ map (λ (r : Refusal). record_of r) (refusals_in those)
+told_more s these those tries attempts r more are before =
+    are
+    ∙ ap (λ (xs : List AttemptRecord). xs ++ record_of r ∷ []) before.told
+    ∙ sym (map-append (λ (r : Refusal). record_of r) (refusals_in these) (r ∷ []))
+    ∙ ap (λ (rs : List Refusal). map (λ (r : Refusal). record_of r) rs) (sym more)
 
 -- one attempt more, behind which another is allowed
-pub one_more : (s : Start) (most : ℕ) (tries attempts : List AttemptRecord) (a : AttemptRecord)
-    (fault : Fault) (e : Error) → s.most ≡ most → attempts ≡ tries ++ a ∷ [] → AreTries s tries
-    → IsConnectFault fault → e ≡ fault_error Upstream fault → IsFailedRecord s.called a e
-    → MayTry most (length attempts) e → AreTries s attempts
-one_more s most tries attempts a fault e limit are before kind is failed may = record {
-  each = subst (λ (xs : List AttemptRecord). All (IsTry s.called) xs) (sym are)
-      (All-append (IsTry s.called) tries (a ∷ []) before.each
-      (All-cons (IsTry s.called) a [] (is_try s.called a fault e kind is failed may.0)
-      (All-nil (IsTry s.called))));
-  allowed = λ some. omega (arith, may.1, limit);
+pub one_more : (s : Start) (most : ℕ) (these those : List LogEntry)
+    (tries attempts : List AttemptRecord) (r : Refusal) → s.most ≡ most
+    → refusals_in those ≡ refusals_in these ++ r ∷ [] → attempts ≡ tries ++ record_of r ∷ []
+    → AreTries (opened_to s these) tries → IsTry r → length attempts < most
+    → AreTries (opened_to s those) attempts
+one_more s most these those tries attempts r limit more are before try may = record {
+  told = told_more s these those tries attempts r more are before;
+  each = subst (λ (rs : List Refusal). All IsTry rs) (sym more)
+      (All-append IsTry (refusals_in these) (r ∷ []) before.each
+      (All-cons IsTry r [] try (All-nil IsTry)));
+  allowed = λ some. omega (arith, may, limit);
+}
+
+-- none of those before the last is none
+some_before : (s : Start) (tries : List AttemptRecord) → AreTries s tries
+    → refusals_in s.called ≢ [] → tries ≢ []
+some_before s tries are some none =
+    some (no_length (refusals_in s.called)
+    (sym (sized s tries are.told) ∙ ap (λ (xs : List AttemptRecord). length xs) none))
+  where
+    no_length : (rs : List Refusal) → length rs ≡ 0 → rs ≡ []
+    no_length [] is = refl
+    no_length (r ∷ rs) is = cc
+
+-- the last attempt of which calls tell failed so
+abbrev pub refused_last : (these those : List LogEntry) (r : Refusal) (e : Error)
+    → refusals_in those ≡ refusals_in these ++ r ∷ [] → IsRaised r
+    → e ≡ upstream_error r.treated → IsRefusedFor those e
+refused_last these those r e more raised is = record {
+  before = refusals_in these;
+  last = r;
+  told = more;
+  raised = raised;
+  error = is;
 }
 
 -- the last one, behind which none is
-pub last_one : (s : Start) (most : ℕ) (tries attempts : List AttemptRecord) (a : AttemptRecord)
-    (e : Error) → s.most ≡ most → attempts ≡ tries ++ a ∷ [] → AreTries s tries
-    → IsFailedRecord s.called a e → ¬ (MayTry most (length attempts) e) → EndsTrying s attempts e
-last_one s most tries attempts a e limit are before failed over = record {
-  tries = tries;
-  last = a;
-  attempts_are = are;
-  are_tries = before;
-  is_record = failed;
+pub last_one : (s : Start) (most : ℕ) (these those : List LogEntry)
+    (tries attempts : List AttemptRecord) (r : Refusal) (e : Error) → s.most ≡ most
+    → refusals_in those ≡ refusals_in these ++ r ∷ [] → attempts ≡ tries ++ record_of r ∷ []
+    → AreTries (opened_to s these) tries → IsRaised r
+    → e ≡ upstream_error r.treated → ¬ (MayTry most (length attempts) e)
+    → EndsTrying (opened_to s those) attempts e
+last_one s most these those tries attempts r e limit more are before raised is over = record {
+  refused = refused_last these those r e more raised is;
+  told = told_more s these those tries attempts r more are before;
+  each = before.each;
+  allowed = λ some. omega (
+    arith,
+    before.allowed (some_before (opened_to s these) tries before some),
+    sized (opened_to s these) tries before.told,
+  );
   over = λ may. over (may.0, subst (λ (n : ℕ). length attempts < n) limit may.1);
 }
+
+-- the fault of which the error tells is the connector's
+told_fault : (fault : Fault) (raised : Error) → IsConnectFault fault
+    → raised ≡ error_of_fault fault → fault_of raised ≡ fault
+told_fault fault raised kind is =
+    ap (λ (e : Error). connect_fault e.retry) is ∙ is_its_fault fault kind
+
+-- the application was told of the fault with which the connector refused a link
+pub raised_so : (peer : Peer) (fault : Fault) (raised treated : Error) → IsConnectFault fault
+    → raised ≡ error_of_fault fault
+    → IsRaised (record { peer = peer; raised = raised; treated = treated })
+raised_so peer fault raised treated kind is =
+    is ∙ ap (λ (f : Fault). error_of_fault f) (sym (told_fault fault raised kind is))
+
+-- and the record that is made of the attempt is the one of which its call tells
+pub recorded_so : (peer recorded : Peer) (fault : Fault) (raised treated e : Error)
+    → recorded ≡ peer → IsConnectFault fault → raised ≡ error_of_fault fault
+    → e ≡ upstream_error treated
+    → unlinked_record recorded fault e
+    ≡ record_of (record { peer = peer; raised = raised; treated = treated })
+recorded_so peer recorded fault raised treated e same kind is made =
+    ap (λ (x : Peer). unlinked_record x fault e) same
+    ∙ ap (λ (f : Fault). unlinked_record peer f e) (sym (told_fault fault raised kind is))
+    ∙ ap (λ (x : Error). unlinked_record peer (fault_of raised) x) made
+
+-- another attempt may follow, or none
+pub may_or_not : (most made : ℕ) (e : Error) → MayTry most made e ⊎ (¬ (MayTry most made e))
+may_or_not most made e = by (may_retry e.retry) refl
+  where
+    by : (b : Bool) → may_retry e.retry ≡ b → MayTry most made e ⊎ (¬ (MayTry most made e))
+    by false is = inr (λ may. true≢false (sym may.0 ∙ is))
+    by true is = elim (cases_lt made most) [
+      | inl less ↦ inl (is, less)
+      | inr full ↦ inr (λ may. omega (arith, may.1, full))
+    ]
 
 -- all attempts but the last are those before it
 pub tries_behind : (tries : List AttemptRecord) (a : AttemptRecord)
@@ -98,15 +175,53 @@ with_last s tries attempts a are before some =
 none_made : (s : Start) (attempts : List AttemptRecord) → attempts ≡ [] → length attempts ≤ s.most
 none_made s attempts none = omega (arith, ap (λ (xs : List AttemptRecord). length xs) none)
 
+-- one of which the last was given no link
+ended_within : (s : Start) (attempts : List AttemptRecord) (e : Error) → EndsTrying s attempts e
+    → 1 ≤ s.most → length attempts ≤ s.most
+ended_within s attempts e made some =
+    omega (
+      arith,
+      counted made.refused.before made.allowed,
+      sized s attempts made.told,
+      ap (λ (rs : List Refusal). length rs) made.refused.told,
+      length-append made.refused.before (made.refused.last ∷ []),
+    )
+  where
+    counted : (before : List Refusal) → (before ≢ [] → length before < s.most)
+        → length before < s.most
+    counted [] allowed = omega (arith, some)
+    counted (r ∷ before) allowed = allowed (λ none. cc)
+
+-- one that hooks ended
+ahead_within : (s : Start) (why : Option Error) (attempts : List AttemptRecord)
+    → MadeAhead s why attempts → 1 ≤ s.most → length attempts ≤ s.most
+ahead_within s None attempts made some = none_made s attempts made
+ahead_within s (Some e) attempts made some = omega (arith, within s attempts made some)
+
+-- one that ended with an error
+failed_within : (s : Start) (p : Passed) (w : World) (attempts : List AttemptRecord) (e : Error)
+    → AttemptsFailed s p w attempts e → 1 ≤ s.most → length attempts ≤ s.most
+failed_within s p w attempts e (AttemptsFailed.unlinked made) some =
+    ended_within s attempts e made some
+failed_within s p w attempts e (AttemptsFailed.ahead ends made) some =
+    ahead_within s ends.why attempts made some
+
 -- one that was not brought to an end
 unfinished_within : (s : Start) (p : Passed) (w : World) (attempts : List AttemptRecord)
     → AttemptsUnfinished s p w attempts → 1 ≤ s.most → length attempts ≤ s.most
 unfinished_within s p w attempts (inl none) some = none_made s attempts none.0
 unfinished_within s p w attempts (inr (inl between)) some =
     omega (arith, within s attempts between.0 some)
-unfinished_within s p w attempts (inr (inr half)) some =
-    with_last s half.made.tries attempts half.made.last half.made.attempts_are half.made.are_tries
-    some
+unfinished_within s p w attempts (inr (inr (inl part))) some =
+    ahead_within s part.why attempts part.made some
+unfinished_within s p w attempts (inr (inr (inr half))) some =
+    ended_within s attempts half.e half.made some
+
+-- one whose last attempt was lost for want of memory
+lost_within : (s : Start) (attempts : List AttemptRecord) → LosesTry s attempts → 1 ≤ s.most
+    → length attempts ≤ s.most
+lost_within s attempts lost some =
+    with_last s lost.tries attempts _ lost.attempts_are lost.are_tries some
 
 -- a request makes no more attempts than it may
 pub at_most : {L : Type 0} (state : L → LinkState) (start_at : L → LinkStart) (s : Start)
@@ -118,14 +233,14 @@ at_most state start_at s p w [] attempts (Refused error) ends some = none_made s
 at_most state start_at s p w [] attempts (Served None reuse) ends some =
     none_made s attempts ends.1
 at_most state start_at s p w [] attempts (Served (Some e) reuse) ends some =
-    elim ends.1 [
-      | inl made ↦ with_last s made.tries attempts made.last made.attempts_are made.are_tries some
-      | inr ahead ↦ none_made s attempts ahead.0
-    ]
+    failed_within s p w attempts e ends.1 some
 at_most state start_at s p w [] attempts TurnLimit ends some =
     unfinished_within s p w attempts ends.1 some
 at_most state start_at s p w [] attempts OutOfMemory ends some =
-    unfinished_within s p w attempts ends.1 some
+    elim ends.1 [
+      | inl unfinished ↦ unfinished_within s p w attempts unfinished some
+      | inr lost ↦ lost_within s attempts lost.0 some
+    ]
 at_most state start_at s p w (r ∷ []) attempts outcome ends some =
     with_last s ends.tries attempts ends.attempt ends.attempts_are ends.are_tries some
 at_most state start_at s p w (r ∷ q ∷ rest) attempts outcome ends some = absurd ends

@@ -13,6 +13,7 @@ use Rattle.relay_attempt.specs.Exchange.{IsUnderWay}
 use Rattle.relay_attempt.specs.Head.{link_of}
 use Rattle.relay_attempt.specs.Passed.{Passed}
 use Rattle.relay_session.specs.declared.session.HttpSession.{HttpSession}
+use Rattle.relay_proxy.specs.Bound.{CountsCall, PhaseCounts, TurnedCounts}
 use Rattle.relay_proxy.specs.Calls.{IsUnended}
 use Rattle.relay_proxy.specs.Passed.{World, Start, called_to, opened_to, origin_of}
 use Rattle.relay_proxy.specs.Phases.{RunSoFar}
@@ -23,6 +24,7 @@ use Rattle.relay_proxy.specs.Stock.{items_held}
 use Rattle.relay_proxy.specs.Taken.{offers_before, offers_of_turn}
 use Rattle.relay_proxy.specs.Tries.{tries_in}
 use Rattle.relay_proxy.specs.Turn.{Advances, AdvancesOn, DoesWork, WorksIn, links_held}
+use Rattle.relay_proxy.proofs.BoundLemmas.{call_bounds}
 use Rattle.relay_proxy.proofs.CountLemmas.{client_counts}
 use Rattle.relay_proxy.proofs.TreatLemmas.{still_open}
 use Rattle.relay_proxy.proofs.UseLemmas.{relaying_of}
@@ -48,6 +50,8 @@ module _ {L C : Type 0} (state : L → LinkState) (start_at : L → LinkStart) w
       → TurnOf state start_at s x own phase next
   relaying_turn s p w x own ReadHead next is run turn = absurd (true≢false (sym is))
   relaying_turn s p w x own (Connect context session tries) next is run turn =
+      absurd (true≢false (sym is))
+  relaying_turn s p w x own (Unlinked context session attempts error) next is run turn =
       absurd (true≢false (sym is))
   relaying_turn s p w x own (Prepare context session link lease) next is run turn =
       absurd (true≢false (sym is))
@@ -81,6 +85,16 @@ module _ {L C : Type 0} (state : L → LinkState) (start_at : L → LinkStart) w
       → AdvancesOn state start_at s' x own next
   connect_turn s s' p w x [] context session tries next run turn = turn run
   connect_turn s s' p w x (r ∷ own) context session tries next run turn = absurd run.holds
+
+  -- and one that has the error of a request without a link answered
+  pub unlinked_turn : (s s' : Start) (p : Passed) (w x : World) (own : List (Returned L))
+      (context : C) (session : Box HttpSession) (attempts : List AttemptRecord) (e : Error)
+      (next : Phase L C) → RunSoFar state start_at s p w own (Unlinked context session attempts e)
+      → (RunSoFar state start_at s p w [] (Unlinked context session attempts e)
+      → Advances state start_at s' x next)
+      → AdvancesOn state start_at s' x own next
+  unlinked_turn s s' p w x [] context session attempts e next run turn = turn run
+  unlinked_turn s s' p w x (r ∷ own) context session attempts e next run turn = absurd run.holds
 
   -- and one that makes the head of an attempt
   pub prepare_turn : (s s' : Start) (p : Passed) (w x : World) (own : List (Returned L))
@@ -125,6 +139,7 @@ module _ {L C : Type 0} (state : L → LinkState) (start_at : L → LinkStart) w
   relaying_rests w x (Fail link lease keep session error) next did is = absurd (true≢false (sym is))
   relaying_rests w x (Answer session owed attempts) next did is = absurd (true≢false (sym is))
   relaying_rests w x (Connect context session tries) next did is = absurd (true≢false (sym is))
+  relaying_rests w x (Unlinked context session attempts error) next did is = absurd (true≢false (sym is))
   relaying_rests w x (Prepare context session link lease) next did is = absurd (true≢false (sym is))
   relaying_rests w x (Relay a) next did is = tt
   relaying_rests w x (Close link lease keep outcome) next did is = absurd (true≢false (sym is))
@@ -139,6 +154,7 @@ module _ {L C : Type 0} (state : L → LinkState) (start_at : L → LinkStart) w
   relaying_unrefused (Fail link lease keep session error) next is = absurd (true≢false (sym is))
   relaying_unrefused (Answer session owed attempts) next is = absurd (true≢false (sym is))
   relaying_unrefused (Connect context session tries) next is = absurd (true≢false (sym is))
+  relaying_unrefused (Unlinked context session attempts error) next is = absurd (true≢false (sym is))
   relaying_unrefused (Prepare context session link lease) next is = absurd (true≢false (sym is))
   relaying_unrefused (Relay a) next is = refl
   relaying_unrefused (Close link lease keep outcome) next is = absurd (true≢false (sym is))
@@ -162,6 +178,7 @@ module _ {L C : Type 0} (state : L → LinkState) (start_at : L → LinkStart) w
   relaying_takes (Fail link lease keep session error) next is = absurd (true≢false (sym is))
   relaying_takes (Answer session owed attempts) next is = absurd (true≢false (sym is))
   relaying_takes (Connect context session tries) next is = absurd (true≢false (sym is))
+  relaying_takes (Unlinked context session attempts error) next is = absurd (true≢false (sym is))
   relaying_takes (Prepare context session link lease) next is = absurd (true≢false (sym is))
   relaying_takes (Relay a) next is = refl
   relaying_takes (Close link lease keep outcome) next is = absurd (true≢false (sym is))
@@ -196,6 +213,8 @@ module _ {L C : Type 0} (state : L → LinkState) (start_at : L → LinkStart) w
       absurd (true≢false (sym is))
   relaying_uses s p own w (Connect context session tries) T is run uses =
       absurd (true≢false (sym is))
+  relaying_uses s p own w (Unlinked context session attempts error) T is run uses =
+      absurd (true≢false (sym is))
   relaying_uses s p own w (Prepare context session link lease) T is run uses =
       absurd (true≢false (sym is))
   relaying_uses s p own w (Relay a) T is run uses =
@@ -226,6 +245,8 @@ module _ {L C : Type 0} (state : L → LinkState) (start_at : L → LinkStart) w
       absurd (true≢false (sym is))
   relaying_counts s p own w client' n used (Connect context session tries) next is run had counts =
       absurd (true≢false (sym is))
+  relaying_counts s p own w client' n used (Unlinked context session attempts error) next is run had counts =
+      absurd (true≢false (sym is))
   relaying_counts s p own w client' n used (Prepare context session link lease) next is run had counts =
       absurd (true≢false (sym is))
   relaying_counts s p [] w client' n used (Relay a) next is run had counts =
@@ -247,6 +268,7 @@ module _ {L C : Type 0} (state : L → LinkState) (start_at : L → LinkStart) w
   unlinked_asked n own (Fail link lease keep session error) none had = cc
   unlinked_asked n own (Answer session owed attempts) none had = had
   unlinked_asked n own (Connect context session tries) none had = had
+  unlinked_asked n own (Unlinked context session attempts error) none had = had
   unlinked_asked n own (Prepare context session link lease) none had = cc
   unlinked_asked n own (Relay a) none had = cc
   unlinked_asked n own (Close link lease keep outcome) none had = cc
@@ -320,6 +342,25 @@ module _ {L C : Type 0} (state : L → LinkState) (start_at : L → LinkStart) w
   broken_counts s p (r ∷ own) w context session link lease keep e n used client next run had none
       asked = absurd run.holds
 
+  -- the turn that has the error of a request without a link answered counts one end at most
+  pub unlinked_turn_bounds : (s s' : Start) (p : Passed) (w x : World) (own : List (Returned L))
+      (context : C) (session : Box HttpSession) (attempts : List AttemptRecord) (e : Error)
+      (next : Phase L C) (work : Work) (tasks ends : ℕ)
+      → RunSoFar state start_at s p w own (Unlinked context session attempts e)
+      → (RunSoFar state start_at s p w [] (Unlinked context session attempts e)
+      → Advances state start_at s' x next)
+      → CountsCall attempts next work
+      → PhaseCounts state start_at tasks ends s w.client w.ahead own
+      (Unlinked context session attempts e)
+      → TurnedCounts state start_at (work.moved + tasks) (work.ended + ends) s' x.client x.ahead own
+      next
+  unlinked_turn_bounds s s' p w x [] context session attempts e next work tasks ends run turn counts
+      had =
+      let on = turn run in
+      call_bounds state start_at s' on.passed x next work attempts tasks ends on.run counts had
+  unlinked_turn_bounds s s' p w x (r ∷ own) context session attempts e next work tasks ends run turn
+      counts had = absurd run.holds
+
   -- what was taken before it was, before the next phase
   pub prepare_offers : (context : C) (session : Box HttpSession) (link : L) (lease : Lease)
       (next : Phase L C) → attempts_in next ≡ tries_in lease
@@ -362,6 +403,7 @@ relaying_works (Broken context session link lease keep error) did work is does =
 relaying_works (Fail link lease keep session error) did work is does = absurd (true≢false (sym is))
 relaying_works (Answer session owed attempts) did work is does = absurd (true≢false (sym is))
 relaying_works (Connect context session tries) did work is does = absurd (true≢false (sym is))
+relaying_works (Unlinked context session attempts error) did work is does = absurd (true≢false (sym is))
 relaying_works (Prepare context session link lease) did work is does = absurd (true≢false (sym is))
 relaying_works (Relay a) did work is does = does
 relaying_works (Close link lease keep outcome) did work is does = absurd (true≢false (sym is))
@@ -375,6 +417,7 @@ open_settles (Broken context session link lease keep error) told is = (refl, ref
 open_settles (Fail link lease keep session error) told is = absurd (true≢false is)
 open_settles (Answer session owed attempts) told is = (refl, refl)
 open_settles (Connect context session tries) told is = (refl, refl)
+open_settles (Unlinked context session attempts error) told is = (refl, refl)
 open_settles (Prepare context session link lease) told is = (refl, refl)
 open_settles (Relay a) told is = (refl, refl)
 open_settles (Close link lease keep outcome) told is = absurd (true≢false is)
@@ -385,6 +428,7 @@ pub unlinked_open : {L C : Type 0} (state : L → LinkState) (start_at : L → L
     (phase : Phase L C) → links_held state start_at phase ≡ 0 → is_closing phase ≡ false
 unlinked_open state start_at ReadHead none = refl
 unlinked_open state start_at (Connect context session tries) none = refl
+unlinked_open state start_at (Unlinked context session attempts error) none = refl
 unlinked_open state start_at (Prepare context session link lease) none = refl
 unlinked_open state start_at (Relay a) none = refl
 unlinked_open state start_at (Broken context session link lease keep error) none = refl
@@ -398,6 +442,7 @@ pub relaying_open : {L C : Type 0} (phase : Phase L C) → is_relaying phase ≡
     → is_closing phase ≡ false
 relaying_open ReadHead is = refl
 relaying_open (Connect context session tries) is = refl
+relaying_open (Unlinked context session attempts error) is = refl
 relaying_open (Prepare context session link lease) is = refl
 relaying_open (Relay a) is = refl
 relaying_open (Broken context session link lease keep error) is = refl
@@ -411,6 +456,7 @@ pub unlinked_items : {L C : Type 0} (state : L → LinkState) (start_at : L → 
     (phase : Phase L C) → links_held state start_at phase ≡ 0 → items_held start_at phase ≡ []
 unlinked_items state start_at ReadHead none = refl
 unlinked_items state start_at (Connect context session tries) none = refl
+unlinked_items state start_at (Unlinked context session attempts error) none = refl
 unlinked_items state start_at (Prepare context session link lease) none = cc
 unlinked_items state start_at (Relay a) none = cc
 unlinked_items state start_at (Broken context session link lease keep error) none = cc
@@ -418,6 +464,14 @@ unlinked_items state start_at (Fail link lease keep session error) none = cc
 unlinked_items state start_at (Close link lease keep outcome) none = cc
 unlinked_items state start_at (Answer session owed attempts) none = refl
 unlinked_items state start_at (Ended outcome attempts) none = refl
+
+-- what was taken before the error was answered was, before the next phase
+pub unlinked_offers : {L C : Type 0} (start_at : L → LinkStart) (context : C)
+    (session : Box HttpSession) (attempts : List AttemptRecord) (e : Error) (next : Phase L C)
+    → items_held start_at next ≡ [] → attempts_in next ≡ attempts
+    → offers_before {C = C} start_at [] (Unlinked context session attempts e)
+    ≡ offers_before start_at [] next
+unlinked_offers start_at context session attempts e next none same = rw (none, sym same) refl
 
 -- what was taken before an answer was, before the next phase
 pub answer_offers : {L C : Type 0} (start_at : L → LinkStart) (own : List (Returned L))

@@ -227,6 +227,7 @@ module _ {L C : Type 0} (state : L → LinkState) (start_at : L → LinkStart) w
       → IsStalled state start_at w phase → came ≡ TurnLimit
   stalled_limit w ReadHead came is stalled = is
   stalled_limit w (Connect context session tries) came is stalled = absurd stalled
+  stalled_limit w (Unlinked context session attempts error) came is stalled = absurd stalled
   stalled_limit w (Prepare context session link lease) came is stalled = absurd stalled
   stalled_limit w (Relay a) came is stalled = is
   stalled_limit w (Broken context session link lease keep e) came is stalled = absurd stalled

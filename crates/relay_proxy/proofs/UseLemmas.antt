@@ -158,6 +158,8 @@ module _ {L C : Type 0} (state : L → LinkState) (start_at : L → LinkStart) w
   settled_stands ReadHead settled before mid after link same does held = absurd (cc)
   settled_stands (Connect context session tries) settled before mid after link same does held =
       absurd (cc)
+  settled_stands (Unlinked context session attempts error) settled before mid after link same does
+      held = absurd (cc)
   settled_stands (Prepare context session l lease) settled before mid after link same does held =
       inl (ap (λ (n : Phase L C). held_state state n) does.0 ∙ held)
   settled_stands (Relay a) settled before mid after link same does held =
@@ -214,6 +216,8 @@ module _ {L C : Type 0} (state : L → LinkState) (start_at : L → LinkStart) w
       → Settles next before after settled → OwesAnswer next → OwesAnswer settled
   owes_settled ReadHead settled before after does owes = absurd owes
   owes_settled (Connect context session tries) settled before after does owes = absurd owes
+  owes_settled (Unlinked context session attempts error) settled before after does owes =
+      subst (λ (n : Phase L C). OwesAnswer n) (sym does.0) tt
   owes_settled (Prepare context session link lease) settled before after does owes = absurd owes
   owes_settled (Relay a) settled before after does owes = absurd owes
   owes_settled (Broken context session link lease keep error) settled before after does owes =

@@ -1,8 +1,7 @@
 -- The calls of an application for one request: what its hooks are shown, their log, and where they
 -- stand (RFC 9110, section 3.7).
-use Rattle.std.specs.Prelude.{◌≡◌, ℕ, ◌+◌, ◌≤◌, ◌⊎◌, Bool, IsSome, IsTrue, true, false, is_some, length, List, [], ◌∷◌, ◌++◌, Option, Some, None, Ok, if◌then◌else◌}
+use Rattle.std.specs.Prelude.{◌≡◌, ℕ, ◌+◌, ◌≤◌, ◌⊎◌, Bool, IsSome, IsTrue, true, false, is_some, length, List, [], ◌∷◌, ◌++◌, Option, Some, None, if◌then◌else◌}
 use Rattle.relay_tasks.specs.declared.Error.{Error}
-use Rattle.relay_tasks.specs.declared.Peer.{Peer}
 use Rattle.relay_tasks.specs.declared.hook.Hook.{Hook}
 use Rattle.relay_tasks.specs.declared.hook.Hook.TheVariants as hook
 use Rattle.relay_tasks.specs.declared.log.Item.TheVariants as item
@@ -318,6 +317,7 @@ module _ (allows : Standing → LogEntry → Type 0) where
     pub turn : Turns allows which (station_at here) (station_at to) QueuesNothing old before new
         behind
     pub told : IsToldOf here turn.e
+    pub past : is_before to ≡ false
     pub goes : GoesOn to
     pub tells : TellsPeer to new.log
 

@@ -7,7 +7,6 @@ use Rattle.relay_hooks.specs.Call.{failure}
 use Rattle.relay_phases.specs.Order.{Accepts, accepted, purging}
 use Rattle.relay_closing.specs.Closes.{logged_in}
 use Rattle.relay_closing.specs.Place.{error_of, is_lost, next_hook}
-use Rattle.relay_closing.specs.Queued.{cause_of}
 use Rattle.relay_closing.specs.declared.place.Cause.TheVariants as cause
 use Rattle.relay_closing.specs.declared.place.End.TheVariants as end
 use Rattle.relay_closing.specs.declared.place.Place.{Place}

@@ -8,9 +8,7 @@ use Rattle.relay_tasks.specs.declared.Context.{Context}
 use Rattle.relay_tasks.specs.declared.Context.TheVariants.{ClientClosed}
 use Rattle.relay_tasks.specs.declared.Error.{Error}
 use Rattle.relay_tasks.specs.declared.ErrorType.TheVariants as kind
-use Rattle.relay_tasks.specs.declared.ErrorSource.TheVariants.{Upstream, Downstream}
-use Rattle.relay_tasks.specs.declared.error.Fail.{Fail}
-use Rattle.relay_tasks.specs.declared.error.Fail.TheVariants as fail
+use Rattle.relay_tasks.specs.declared.ErrorSource.TheVariants.{Downstream}
 use Rattle.relay_tasks.specs.declared.Fault.{Fault}
 use Rattle.relay_tasks.specs.declared.log.LogEntry.{LogEntry}
 use Rattle.relay_tasks.specs.declared.task.HttpTask.{HttpTask}

@@ -1,7 +1,6 @@
 -- What one turn makes of a phase.
 use Rattle.std.specs.Global.{Box}
 use Rattle.std.specs.Prelude.{◌≡◌, ◌⊎◌, ℕ, ◌<◌, Bool, true, false, List, [], ◌∷◌, ◌++◌, Option, None, Some}
-use Rattle.relay_tasks.specs.declared.Error.{Error}
 use Rattle.relay_links.specs.Count.{up}
 use Rattle.relay_links.specs.Link.{LinkState, LinkStart, GivesBytes, TakesBytes}
 use Rattle.relay_links.specs.declared.branch.Branch.{Branch}
@@ -22,8 +21,6 @@ use Rattle.relay_proxy.specs.declared.machine.Phase.{Phase}
 use Rattle.relay_proxy.specs.declared.machine.Phase.TheVariants.{ReadHead, Connect, Unlinked, Prepare, Relay, Broken, Fail, Close, Answer, Ended}
 use Rattle.relay_proxy.specs.declared.machine.RunStep.{RunStep}
 use Rattle.relay_proxy.specs.declared.machine.RunStep.TheVariants as step
-use Rattle.relay_proxy.specs.declared.outcome.Outcome.TheVariants.{OutOfMemory}
-use Rattle.relay_proxy.specs.declared.owed.Owed.TheVariants.{Served}
 use Rattle.relay_proxy.specs.declared.record.AttemptRecord.{AttemptRecord}
 use Rattle.relay_proxy.specs.declared.work.Work.{Work}
 

@@ -22,6 +22,7 @@ ghost use Rattle.relay_proxy.specs.Stock.{items_held};
 ghost use Rattle.relay_proxy.specs.Relayable.{IsAccepted};
 ghost use Rattle.relay_proxy.specs.Refusals.{attempts_in, faults_before, faults_told};
 ghost use Rattle.relay_proxy.specs.Taken.{TakesAfter};
+ghost use Rattle.relay_proxy.specs.Tries.{AreTries};
 ghost use Rattle.relay_proxy.specs.Turn.{world_with, DoesWork, is_connecting, is_over, is_end, links_held, Advances, HasCause};
 ghost use Rattle.relay_proxy.specs.Uses.{OwesAnswer, PhaseUses};
 ghost use Rattle.relay_proxy.specs.declared.outcome.Outcome.{Outcome};
@@ -192,7 +193,7 @@ fn turn_down<M: HttpModule + Drop, K: Drop, L: ByteLink, C: Drop>(
         → session.value.writing.output ≡ Outgoing.Open []
         → session.value.writing.request ≡ request_of head
         → session.value.writing.place ≡ Place.NoHead → IsAccepted (opened_to s those) p head
-        → Accepts accepted those purging → IsUntreated those → tries ≡ []
+        → Accepts accepted those purging → IsUntreated those → AreTries (opened_to s those) tries
         → RunSoFar {C = C} L.state L.start (opened_to s these) p w []
         (Phase.Connect context client tries)
         → Advances {C = C} L.state L.start (opened_to s those) w result.phase }

@@ -1,7 +1,7 @@
 //! The head of an attempt: it is filtered by the application and made as it is sent, over a link of
 //! which nothing was asked yet; and the attempt's exchange begins with it (RFC 9110, section 7.6; RFC
 //! 9112, section 3.2).
-ghost use Rattle.std.specs.Prelude.{◌≡◌, ◌⊎◌, ◌≤◌, [], ◌∷◌, ℕ, None, Some, IsSome, IfErr, IfOk};
+ghost use Rattle.std.specs.Prelude.{◌≡◌, ◌⊎◌, ◌≤◌, [], ◌∷◌, ℕ, false, None, Some, IsSome, IfErr, IfOk};
 ghost use Rattle.std.specs.Global.{Box};
 ghost use Rattle.relay_tasks.specs.Head.{RequestHead};
 ghost use Rattle.relay_attempt.specs.Head.{link_of};
@@ -95,6 +95,7 @@ fn sent_of<SV: ProxyHttp>(
         (SV.mark_of app.now context.old) calls.new client.new (SV.mark_of app.now context.new)
         result }
     ensures at { calls.new.at ≡ calls.old.at }
+    ensures framed { IfOk result (λ head. IsSome (request_framing head)) }
 {
     let ready = readied(alloc, client)?;
     let filtered = filter(app, calls, context, client, ready)?;
@@ -117,7 +118,8 @@ fn readied(alloc: Global, client: &HttpSession) -> Result<RequestHeader>
 
 /// The head that the filter left, as it is sent beside the session's own.
 fn settled(alloc: Global, client: &HttpSession, filtered: RequestHeader) -> Result<RequestHeader>
-    ensures { Makes (Settles client.now filtered) result }
+    ensures settles { Makes (Settles client.now filtered) result }
+    ensures framed { IfOk result (λ head. IsSome (request_framing head)) }
 {
     if !client.has_head() {
         return Err(Fail::OutOfMemory);
@@ -135,6 +137,7 @@ fn settled(alloc: Global, client: &HttpSession, filtered: RequestHeader) -> Resu
 /// A head whose body has a framing; one without is refused, for the relay's own side.
 fn framed(sent: RequestHeader) -> Result<RequestHeader>
     ensures ok { IfOk result (λ head. (head ≡ sent) × IsSome (request_framing sent)) }
+    ensures framed { IfOk result (λ head. IsSome (request_framing head)) }
     ensures err { IfErr result (λ why. (why ≡ Fail.Error unframed)
         × (request_framing sent ≡ None)) }
 {
@@ -178,7 +181,7 @@ pub(crate) fn closed<L, C>(link: L, lease: Lease, keep: bool, outcome: Outcome) 
     }
 }
 
-/// Begins the attempt's exchange over its link, with the head that is sent.
+/// Begins the attempt's exchange over its link, with the head that is sent. Its body has a framing.
 fn begin<L: ByteLink, C: Drop>(
     alloc: Global,
     context: C,
@@ -187,6 +190,7 @@ fn begin<L: ByteLink, C: Drop>(
     link: L,
     lease: Lease,
 ) -> Next<L, C>
+    requires { IsSome (request_framing head) }
     ensures run { (s : Start) (p : Passed) (w : World)
         → (run : RunSoFar {C = C} L.state L.start s p w []
         (Phase.Prepare context session link lease))
@@ -218,8 +222,20 @@ fn begin<L: ByteLink, C: Drop>(
                 context,
             },
         ),
-        // A head that was settled has a framing, so memory was wanted.
-        Err(Unbegun { link, why: _ }) => closed(link, lease, false, Outcome::OutOfMemory),
+        Err(Unbegun { link, why }) => unbegun(link, lease, why),
+    }
+}
+
+/// A request whose exchange was not begun, for which memory was wanted: its link is to go back.
+fn unbegun<L, C>(link: L, lease: Lease, why: Fail) -> Next<L, C>
+    requires { why ≡ Fail.OutOfMemory }
+    ensures phase { result.phase ≡ Phase.Close link lease false Outcome.OutOfMemory }
+    ensures step { result.step ≡ RunStep.Ended }
+    ensures work { result.work ≡ Work.ENDED }
+{
+    match why {
+        Fail::OutOfMemory => closed(link, lease, false, Outcome::OutOfMemory),
+        Fail::Error(_) => unreachable!(),
     }
 }
 

@@ -91,7 +91,8 @@ impl<SV: ProxyHttp, K: Connector> RequestMachine<SV, K> {
         self.machine.phase.is_over()
     }
 
-    /// A turn of a request that has ended, and all of whose hooks were called, does no work.
+    /// A turn of a request that has ended, and all of whose hooks were called, does no work. The sum
+    /// changes no number: it says, for the proof of `step`, that none is past its last value.
     fn rest(&mut self) -> RunStep
         ensures same { self.new ≡ self.old }
         ensures adds { self.new.machine.work ≡ added_work self.old.machine.work Work.NONE }

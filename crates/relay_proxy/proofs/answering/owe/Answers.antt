@@ -10,5 +10,5 @@ returns-clause-calls g c = Owing.waits c.args.session (refl, refl) (refl, refl) 
 -- nothing waits, and the session has its client again
 pub returns-then-not-has_pending-clause-calls : goal.returns-then-not-has_pending-clause-calls
 returns-then-not-has_pending-clause-calls g c =
-    Owing.written c.args.session.value _ refl (rw c.outcome.ensures refl) (refl, refl)
-    (rw (← c.into_inner.ensures, c.outcome.ensures) c.take_client.ensures)
+    Owing.written c.args.session.value _ (rw c.ended.ensures.phase refl) c.outcome.ensures
+    (refl, refl) c.ended.ensures.calls

@@ -1,9 +1,8 @@
 -- The hook that comes next is called with the session that has its client in it.
-use Rattle.std.proofs.Common.{None, inl, inr, refl, sym}
+use Rattle.std.proofs.Common.{None, inl, inr, refl}
 use Rattle.relay_modules.specs.Module.{AllowsMade, ModuleCall}
 use Rattle.relay_calls.specs.Log.{IsAllowed}
-use Rattle.relay_proxy.proofs.CallLemmas.{none_called}
-use Rattle.relay_proxy.proofs.ClosingSteps.{closing_calls, last_app, last_counts, may_call, some_begin}
+use Rattle.relay_proxy.proofs.ClosingSteps.{closing_calls, last_app, last_counts, some_begin}
 use Rattle.relay_proxy.proofs.calls.call_last.Goals as goal
 
 -- it is called

@@ -46,7 +46,7 @@ returns-clause-run g c = λ s p faults none run has entered no_connect.
     c.args.read.len _ c.begun_http1-session.result _ _
     (g.SV.ProxyHttp.mark_of c.args.hooks.now c.in-Ok.context)
     (ap (λ (x : World). x.client) world) (ap (λ (x : World). x.ahead) world) refl
-    c.new-3.ensures none has
+    c.new-3.ensures none c.in-Ok.ensures.once has
     (record {
       entered = entered;
       method = no_connect;

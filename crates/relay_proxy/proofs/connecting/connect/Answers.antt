@@ -1,12 +1,9 @@
 -- Over a link that the connector gave the exchange begins; where it gave none, its count rose.
-use Rattle.std.proofs.Common.{List, ap, refl, subst, sym, ◌∙◌}
-use Rattle.relay_proxy.specs.Calls.{TellsPeer, has_peer, log_of}
-use Rattle.relay_proxy.specs.Passed.{opened_to}
+use Rattle.std.proofs.Common.{List, ap, refl, sym, ◌∙◌}
 use Rattle.relay_proxy.specs.Refusals.{faults_told}
 use Rattle.relay_proxy.specs.Turn.{world_with}
-use Rattle.relay_proxy.specs.declared.calls.At.{At}
 use Rattle.relay_proxy.specs.declared.record.AttemptRecord.{AttemptRecord}
-use Rattle.relay_proxy.proofs.CallLemmas.{asked_calls, none_called, opening_logged}
+use Rattle.relay_proxy.proofs.CallLemmas.{opening_logged}
 use Rattle.relay_proxy.proofs.HookSteps.{same_peer}
 use Rattle.relay_proxy.proofs.RefusalLemmas.{told_before_link}
 use Rattle.relay_proxy.proofs.TakenLemmas.{none_asked, took_fault, took_link}
@@ -41,27 +38,22 @@ returns-in_default-peer-clause-calls g c = λ o.
     rw c.lacks_memory-in_default-peer.ensures.phase
     (opening_logged _ _ c.args.calls.now c.args.context c.args.session.value c.args.tries o)
 
--- where it gave none the request goes on, or ends with its fault
+-- where it gave none the application is told so
 pub returns-in-Err-get-clause-run : goal.returns-in-Err-get-clause-run
 returns-in-Err-get-clause-run g c = λ s p client ahead limit o run.
-    c.refused_link.ensures.run (opened_to s (log_of c.args.calls.now)) p
+    c.refused_link.ensures.run s p
     (world_with client ahead (g.K.Connector.fault_count c.args.connector.now))
     (g.K.Connector.fault_count c.get.new.self) limit c.get.ensures.fits.0
-    c.in-Err-get.ensures.rose c.in-Err-get.ensures.fault
-    (subst (λ (a : At _ _). TellsPeer a (log_of c.args.calls.now)) c.in-Some-peer.ensures o.named)
+    c.in-Err-get.ensures.rose c.in-Err-get.ensures.fault (rw (← c.in-Ok.ensures.ok) at o)
+    c.in-Some.ensures (same_peer _ _ (sym c.in-Some-peer.ensures ∙ c.in-Some.ensures))
     (rw (← c.in-Ok.ensures.ok) at run)
 
--- and no hook is called
 pub returns-in-Err-get-clause-calls : goal.returns-in-Err-get-clause-calls
 returns-in-Err-get-clause-calls g c = λ o.
-    asked_calls _ _ _ c.args.calls.now c.args.context c.args.session c.args.tries
-    c.refused_link.result.phase g.K.Byte.ByteLink.state g.K.Byte.ByteLink.start
-    c.in-Some-peer.ensures
-    c.refused_link.ensures.asked c.refused_link.ensures.unlinked o
+    c.refused_link.ensures.calls c.in-Some.ensures (rw (← c.in-Ok.ensures.ok) at o)
 
 pub returns-in-Err-get-clause-called : goal.returns-in-Err-get-clause-called
-returns-in-Err-get-clause-called g c =
-    none_called _ _ c.refused_link.result.work c.refused_link.ensures.uncalled refl
+returns-in-Err-get-clause-called g c = c.refused_link.ensures.called
 
 -- a link that was given is no refusal, and was the first of the offers
 pub returns-in-Ok-get-clause-asks : goal.returns-in-Ok-get-clause-asks
@@ -77,7 +69,7 @@ pub returns-in-Err-get-clause-asks : goal.returns-in-Err-get-clause-asks
 returns-in-Err-get-clause-asks g c =
     took_fault _ _ _ c.in-Err-get.fault _ _ _ _
     (rw c.in-Ok.ensures.ok at c.refused_link.ensures.told) c.refused_link.ensures.no_items
-    c.in-Err-get.ensures.fault c.in-Err-get.ensures.refused c.in-Err-get.ensures.foretold
+    c.in-Err-get.ensures.refused c.in-Err-get.ensures.foretold
 
 -- where none was given the cause is that of the refusal
 pub returns-in-Err-get-clause-cause : goal.returns-in-Err-get-clause-cause
@@ -97,3 +89,6 @@ returns-in_default-peer-clause-asks g c =
 -- the end does not begin as the application is told of the link
 pub returns-in-Ok-get-clause-unended : goal.returns-in-Ok-get-clause-unended
 returns-in-Ok-get-clause-unended g c = c.tell.ensures.unended
+
+pub returns-in-Err-get-clause-unended : goal.returns-in-Err-get-clause-unended
+returns-in-Err-get-clause-unended g c = c.refused_link.ensures.unended

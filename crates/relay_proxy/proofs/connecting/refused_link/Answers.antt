@@ -1,62 +1,90 @@
--- The attempt is recorded, and the connector is asked again, or its client is owed an answer.
-use Rattle.std.proofs.Common.{◌++◌, ◌∷◌, [], List, ℕ, refl, sym, ap, subst, ◌∙◌}
-use Rattle.relay_tasks.specs.declared.Error.{Error}
-use Rattle.relay_links.specs.Connector.{connect_fault}
-use Rattle.relay_proxy.specs.Refusals.{faults_told}
-use Rattle.relay_proxy.specs.Tries.{MayTry}
-use Rattle.relay_proxy.specs.declared.record.AttemptRecord.{AttemptRecord}
+-- The attempt is recorded with its error as it was treated, and another follows, or its client is
+-- to be answered; or memory was wanted.
+use Rattle.std.proofs.Common.{refl, subst}
+use Rattle.relay_phases.specs.Order.{named}
+use Rattle.relay_trying.specs.Trying.{may_follow, treated_at}
+use Rattle.relay_proxy.specs.Calls.{TellsPeer, allowed_by, log_of, seen_with}
+use Rattle.relay_proxy.specs.declared.calls.At.{At}
+use Rattle.relay_proxy.proofs.CallLemmas.{logged_same}
+use Rattle.relay_proxy.proofs.ConnectSteps.{not_told, refused_moved, refused_on}
+use Rattle.relay_proxy.proofs.RefusalLemmas.{refused_counts, told_on, told_once}
+use Rattle.relay_proxy.proofs.RefusedCalls.{refused_calls}
 use Rattle.relay_proxy.proofs.Tells.{sided}
-use Rattle.relay_proxy.proofs.ConnectSteps.{tried_again}
-use Rattle.relay_proxy.proofs.RefusalLemmas.{told_once}
-use Rattle.relay_proxy.proofs.TryLemmas.{last_one, one_more}
 use Rattle.relay_proxy.proofs.connecting.refused_link.Goals as goal
 
--- the connector is asked again
-pub returns-then-may_try-clause-run : goal.returns-then-may_try-clause-run
-returns-then-may_try-clause-run g c = λ s p w failed limit fits rose kind asked run.
-    tried_again g.L.ByteLink.state g.L.ByteLink.start s p w failed c.args.context c.args.session
-    c.args.room.items.items c.fill-attempts.result fits rose
-    (one_more s c.args.most c.args.room.items.items c.fill-attempts.result _ c.args.fault
-    c.into_up-error.result limit c.fill-attempts.ensures run.holds.are_tries kind
-    (sided _ _ _ _ c.of_fault.ensures c.into_up-error.ensures)
-    (record { peer = asked; reused = refl; kept = refl; error = refl })
-    (subst (λ (n : ℕ). MayTry c.args.most n c.into_up-error.result) c.len.ensures
-    (c.if-may_try.ensures.0 refl))) run
+-- the application treated its error, and another attempt follows, or none
+pub returns-in-Ok-clause-run : goal.returns-in-Ok-clause-run
+returns-in-Ok-clause-run g c = λ s p w failed limit fits rose kind o was same run.
+    let t = rw c.deref_mut.ensures.value at c.in-Ok.ensures.treats in
+    refused_on g.L.ByteLink.state g.L.ByteLink.start
+    (allowed_by (g.SV.ProxyHttp.allows c.args.app.now) g.SV.Modules.HttpModule.allows)
+    c.args.calls.now c.treat_unlinked.new.calls
+    (g.SV.ProxyHttp.mark_of c.args.app.now c.args.context)
+    (g.SV.ProxyHttp.mark_of c.args.app.now c.treat_unlinked.new.context) s p w failed c.args.most
+    c.args.context c.args.session c.treat_unlinked.new.client
+    c.args.lacking.room.items.items c.record-attempts.result named
+    (treated_at (may_follow c.in-Ok.treated (seen_with c.args.calls.now c.args.session.value)))
+    c.args.lacking.peer c.args.lacking.recorded c.args.lacking.fault c.of_fault-raised.result
+    c.in-Ok.treated c.into_up-error.result limit fits rose kind
+    (subst (λ (a : At _ _). TellsPeer a (log_of c.args.calls.now)) was o.named) same
+    c.of_fault-raised.ensures c.into_up-error.ensures c.record-attempts.ensures t.call run
+    c.go_on.new.calls c.treat_unlinked.new.context _ c.go_on.result.phase c.go_on.ensures.log
+    (λ may. (c.go_on.ensures.again may).0) (λ over. (c.go_on.ensures.ends over).0) refl
 
--- no other attempt may be made
-pub returns-clause-run : goal.returns-clause-run
-returns-clause-run g c = λ s p w failed limit fits rose kind asked run.
-    c.answer_unlinked.ensures.run s p w failed c.args.context c.args.room.items.items c.args.fault
-    fits rose kind (sided _ _ _ _ c.of_fault.ensures c.into_up-error.ensures)
-    (last_one s c.args.most c.args.room.items.items c.fill-attempts.result _
-    c.into_up-error.result limit c.fill-attempts.ensures run.holds.are_tries
-    (record { peer = asked; reused = refl; kept = refl; error = refl })
-    (λ may. let clash = c.if-may_try.ensures.1
-    (subst (λ (n : ℕ). MayTry c.args.most n c.into_up-error.result) (sym c.len.ensures) may) in
-    cc)) run
+pub returns-in-Ok-clause-calls : goal.returns-in-Ok-clause-calls
+returns-in-Ok-clause-calls g c = λ was o.
+    refused_calls _ (g.SV.ProxyHttp.mark_of c.args.app.now) c.args.calls.now
+    c.treat_unlinked.new.calls c.args.context c.treat_unlinked.new.context c.args.session.value
+    c.treat_unlinked.new.client c.args.lacking.room.items.items c.args.lacking.peer
+    c.of_fault-raised.result c.in-Ok.treated was o
+    (rw c.deref_mut.ensures.value at c.in-Ok.ensures.treats) c.go_on.new.calls _
+    c.go_on.result.phase c.args.most c.record-attempts.result c.into_up-error.result
+    c.into_up-error.ensures c.go_on.ensures.again c.go_on.ensures.ends refl
 
--- its cause is that of the answer
-pub returns-clause-cause : goal.returns-clause-cause
-returns-clause-cause g c = λ w x.
-    c.answer_unlinked.ensures.cause w x c.args.context c.args.room.items.items
+-- that is what the turn moved
+pub returns-in-Ok-clause-cause : goal.returns-in-Ok-clause-cause
+returns-in-Ok-clause-cause g c = λ w x.
+    refused_moved g.L.ByteLink.state g.L.ByteLink.start w x c.args.context
+    c.treat_unlinked.new.context c.args.session _ c.args.lacking.room.items.items
+    c.record-attempts.result _ c.into_up-error.result c.go_on.result.phase c.go_on.result.step
+    c.go_on.ensures.step c.record-attempts.ensures c.go_on.ensures.follows
 
 -- the record tells of the fault
-pub returns-then-may_try-clause-told : goal.returns-then-may_try-clause-told
-returns-then-may_try-clause-told g c =
-    told_once c.args.room.items.items c.fill-attempts.result _ c.into_up-error.result
-    c.fill-attempts.ensures refl
-    ∙ ap (λ (e : Error). faults_told c.args.room.items.items ++ connect_fault e.retry ∷ [])
-    (sided _ _ _ _ c.of_fault.ensures c.into_up-error.ensures)
+pub returns-in-Ok-clause-told : goal.returns-in-Ok-clause-told
+returns-in-Ok-clause-told g c =
+    told_on c.go_on.result.phase _ _ c.record-attempts.result c.into_up-error.result _
+    c.go_on.ensures.follows
+    (told_once c.args.lacking.room.items.items c.record-attempts.result _ c.args.lacking.fault
+    c.record-attempts.ensures refl)
 
--- and so it does where an answer is owed
-pub returns-clause-told : goal.returns-clause-told
-returns-clause-told g c =
-    ap (λ (xs : List AttemptRecord). faults_told xs) c.answer_unlinked.ensures.attempts
-    ∙ told_once c.args.room.items.items c.fill-attempts.result _ c.into_up-error.result
-    c.fill-attempts.ensures refl
-    ∙ ap (λ (e : Error). faults_told c.args.room.items.items ++ connect_fault e.retry ∷ [])
-    (sided _ _ _ _ c.of_fault.ensures c.into_up-error.ensures)
+-- and counts as one attempt more
+pub returns-in-Ok-clause-counts : goal.returns-in-Ok-clause-counts
+returns-in-Ok-clause-counts g c =
+    refused_counts c.go_on.result.phase _ _ c.args.lacking.room.items.items
+    c.record-attempts.result _ c.into_up-error.result c.go_on.result.work
+    (rw c.go_on.ensures.work refl) (rw c.go_on.ensures.work refl) c.record-attempts.ensures
+    c.go_on.ensures.follows
 
--- and it is for the error of the last
-pub returns-clause-asked : goal.returns-clause-asked
-returns-clause-asked g c = c.answer_unlinked.ensures.asked c.args.context c.args.session
+-- memory was wanted as the application was to be told so
+pub returns-in-Err-clause-run : goal.returns-in-Err-clause-run
+returns-in-Err-clause-run g c = λ s p w failed limit fits rose kind o was same run.
+    rw c.lacks_memory.ensures.phase
+    (not_told g.L.ByteLink.state g.L.ByteLink.start c.args.calls.now c.treat_unlinked.new.calls s p w
+    failed c.args.context c.args.session c.args.lacking.room.items.items c.record.result fits rose
+    run c.args.lacking.peer c.args.lacking.recorded c.args.lacking.fault c.into_up.result
+    c.in-Err.ensures.lost
+    (subst (λ (a : At _ _). TellsPeer a (log_of c.args.calls.now)) was o.named) same kind
+    (sided _ _ _ _ c.of_fault-raised.ensures c.into_up.ensures) c.record.ensures)
+
+pub returns-in-Err-clause-calls : goal.returns-in-Err-clause-calls
+returns-in-Err-clause-calls g c = λ was o.
+    rw c.lacks_memory.ensures.phase
+    (logged_same _ _ c.args.calls.now c.treat_unlinked.new.calls c.args.context
+    c.args.session.value _ c.in-Err.ensures.lost o)
+
+-- and the record tells of the fault
+pub returns-in-Err-clause-told : goal.returns-in-Err-clause-told
+returns-in-Err-clause-told g c =
+    rw c.lacks_memory.ensures.phase
+    (told_once c.args.lacking.room.items.items c.record.result _ c.args.lacking.fault
+    c.record.ensures refl)

@@ -10,14 +10,15 @@ use Rattle.relay_proxy.specs.Ahead.{IsStoppedFor}
 use Rattle.relay_proxy.specs.Calls.{IsUnended, log_of}
 use Rattle.relay_proxy.specs.Passed.{Start, called_to}
 use Rattle.relay_proxy.specs.Phases.{RunSoFar}
+use Rattle.relay_proxy.specs.Tries.{refusals_in}
 use Rattle.relay_proxy.specs.Turn.{Advances}
 use Rattle.relay_proxy.specs.declared.machine.Phase.TheVariants as phase
 use Rattle.relay_proxy.specs.declared.outcome.Outcome.TheVariants as outcome
 use Rattle.relay_proxy.proofs.CallLemmas.{logged_same, none_called, one_called, opening_stands}
 use Rattle.relay_proxy.proofs.LastCalls.{counted_still, opening_ends, owing_log, owing_on}
 use Rattle.relay_proxy.proofs.ClosingSteps.{answered_by, queued_by}
-use Rattle.relay_proxy.proofs.HookSteps.{final_fails, final_station, unnamed_failed}
-use Rattle.relay_proxy.proofs.OpenSteps.{error_answered, hooks_leave, hooks_lost}
+use Rattle.relay_proxy.proofs.HookSteps.{final_fails, final_station}
+use Rattle.relay_proxy.proofs.OpenSteps.{called_tries, closed_tries, error_answered, hooks_leave, hooks_lost}
 use Rattle.relay_proxy.proofs.TreatLemmas.{ends_with, still_open}
 use Rattle.relay_proxy.proofs.opening.answer.Goals as goal
 
@@ -27,7 +28,6 @@ returns-in-Ok-clause-run g c = λ s p w o run.
     let h = rw c.deref_mut.ensures.value at (c.in-Ok.ensures.answers station.failing refl) in
     let answers = h.answers in
     let here = final_station c.args.calls.now.at c.args.error c.requires in
-    let untried = o.untried (unnamed_failed c.args.calls.now.at c.args.error c.requires) in
     let before = subst
     (λ (t : Start). RunSoFar g.L.ByteLink.state g.L.ByteLink.start t p w []
     (phase.Connect c.args.context c.args.session c.args.tries))
@@ -51,7 +51,9 @@ returns-in-Ok-clause-run g c = λ s p w o run.
     (hooks_leave g.L.ByteLink.state g.L.ByteLink.start (log_of c.args.calls.now)
     (log_of c.args.calls.now) (answers.turn.e ∷ []) s p w c.args.context c.args.session _ c.args.tries
     _ done.text c.owe.result.phase done.is_open (λ some. (c.owe.ensures.some some).0)
-    (λ none. (c.owe.ensures.none none).0) done.owed o.untreated untried before))
+    (λ none. (c.owe.ensures.none none).0) done.owed o.untreated
+    (closed_tries s (log_of c.args.calls.now) (answers.turn.e ∷ []) c.args.tries
+    before.holds.are_tries) before))
 
 pub returns-in-Ok-clause-calls : goal.returns-in-Ok-clause-calls
 returns-in-Ok-clause-calls g c = λ o.
@@ -76,19 +78,21 @@ returns-in-Ok-clause-called g c =
 -- memory was wanted
 pub returns-in-Err-clause-run : goal.returns-in-Err-clause-run
 returns-in-Err-clause-run g c = λ s p w o run.
-    let untried = o.untried (unnamed_failed c.args.calls.now.at c.args.error c.requires) in
     let now = subst (λ (l : List LogEntry). IsUnended l) (sym c.in-Err.ensures.lost) o.unended in
+    let before = subst
+    (λ (t : Start). RunSoFar g.L.ByteLink.state g.L.ByteLink.start t p w []
+    (phase.Connect c.args.context c.args.session c.args.tries))
+    (still_open s (log_of c.args.calls.now) o.unended) run in
     rw c.lacks_memory.ensures.phase
     (subst
     (λ (t : Start). Advances {C = g.row.SV-CTX.Denot} g.L.ByteLink.state g.L.ByteLink.start t w
     (phase.Ended outcome.OutOfMemory c.args.tries))
     (sym (still_open s (log_of c.answer_error.new.calls) now))
     (hooks_lost g.L.ByteLink.state g.L.ByteLink.start (log_of c.args.calls.now)
-    (log_of c.answer_error.new.calls) s p w c.args.context c.args.session c.args.tries untried
-    (subst
-    (λ (t : Start). RunSoFar g.L.ByteLink.state g.L.ByteLink.start t p w []
-    (phase.Connect c.args.context c.args.session c.args.tries))
-    (still_open s (log_of c.args.calls.now) o.unended) run)))
+    (log_of c.answer_error.new.calls) s p w c.args.context c.args.session c.args.tries
+    (called_tries s (log_of c.args.calls.now) (log_of c.answer_error.new.calls) c.args.tries
+    (ap (λ (l : List LogEntry). refusals_in l) c.in-Err.ensures.lost) before.holds.are_tries)
+    before))
 
 pub returns-in-Err-clause-calls : goal.returns-in-Err-clause-calls
 returns-in-Err-clause-calls g c = λ o.

@@ -7,8 +7,8 @@ use Rattle.relay_proxy.specs.Turn.{Advances}
 use Rattle.relay_proxy.specs.declared.calls.Calls.{Calls}
 use Rattle.relay_proxy.specs.declared.owed.Owed.TheVariants as owing
 use Rattle.relay_proxy.proofs.LastCalls.{counted_still, owing_log, owing_on}
-use Rattle.relay_proxy.proofs.HookSteps.{answered, answered_owing, counts_called, goes_connecting, known_at, memory_called, memory_logged, opening_on, purged, purged_owing, unended, unnamed, untreated}
-use Rattle.relay_proxy.proofs.OpenSteps.{hooks_leave, hooks_lost, opened_on}
+use Rattle.relay_proxy.proofs.HookSteps.{answered, answered_owing, counts_called, goes_connecting, known_at, memory_called, memory_logged, opening_on, purged, purged_owing, refusals, unended, untreated}
+use Rattle.relay_proxy.proofs.OpenSteps.{called_tries, hooks_leave, hooks_lost, opened_on}
 use Rattle.relay_proxy.proofs.opening.open.Goals as goal
 
 -- it goes on
@@ -19,8 +19,7 @@ returns-in-GoesOn-clause-run g c = λ s p w o run.
     (goes_connecting _ (g.SV.ProxyHttp.mark_of c.args.app.now) c.args.calls.now
     c.call_next.new.calls c.args.context c.call_next.new.context c.args.session.value
     c.call_next.new.client (rw c.deref_mut.ensures.value at c.in-GoesOn.ensures.turns)
-    (sym c.in-GoesOn.ensures.shown) s p w c.args.tries
-    (o.untried (unnamed c.args.calls.now.at c.requires)) run.holds) run
+    (sym c.in-GoesOn.ensures.shown) s p w c.args.tries run.holds) run
 
 -- and its calls go on
 pub returns-in-GoesOn-clause-calls : goal.returns-in-GoesOn-clause-calls
@@ -28,7 +27,7 @@ returns-in-GoesOn-clause-calls g c = λ o.
     opening_on _ (g.SV.ProxyHttp.mark_of c.args.app.now) c.args.calls.now
     c.call_next.new.calls c.args.context c.call_next.new.context c.args.session.value
     c.call_next.new.client (rw c.deref_mut.ensures.value at c.in-GoesOn.ensures.turns) c.args.tries
-    c.requires (sym c.in-GoesOn.ensures.shown) o
+    (sym c.in-GoesOn.ensures.shown) o
 
 pub returns-in-GoesOn-clause-called : goal.returns-in-GoesOn-clause-called
 returns-in-GoesOn-clause-called g c =
@@ -55,7 +54,7 @@ returns-in-Answered-clause-run g c = λ s p w o run.
     (untreated _ (g.SV.ProxyHttp.mark_of c.args.app.now) c.args.calls.now c.call_next.new.calls
     c.args.context c.call_next.new.context c.args.session.value c.call_next.new.client
     (rw c.deref_mut.ensures.value at c.in-Answered.ensures.turns) o.untreated)
-    (o.untried (unnamed c.args.calls.now.at c.requires)) run)
+    (o.untried done.before) run)
 
 pub returns-in-Answered-clause-calls : goal.returns-in-Answered-clause-calls
 returns-in-Answered-clause-calls g c = λ o.
@@ -96,7 +95,10 @@ returns-in-Purges-clause-run g c = λ s p w o run.
     (untreated _ (g.SV.ProxyHttp.mark_of c.args.app.now) c.args.calls.now c.call_next.new.calls
     c.args.context c.call_next.new.context c.args.session.value c.call_next.new.client
     (rw c.deref_mut.ensures.value at c.in-Purges.ensures.turns) o.untreated)
-    (o.untried (unnamed c.args.calls.now.at c.requires)) run)
+    (called_tries s (log_of c.args.calls.now) (log_of c.call_next.new.calls) c.args.tries
+    (refusals _ (g.SV.ProxyHttp.mark_of c.args.app.now) c.args.calls.now c.call_next.new.calls
+    c.args.context c.call_next.new.context c.args.session.value c.call_next.new.client
+    (rw c.deref_mut.ensures.value at c.in-Purges.ensures.turns)) run.holds.are_tries) run)
 
 pub returns-in-Purges-clause-calls : goal.returns-in-Purges-clause-calls
 returns-in-Purges-clause-calls g c = λ o.
@@ -123,7 +125,10 @@ returns-in-OutOfMemory-clause-run g c = λ s p w o run.
     rw c.lacks_memory.ensures.phase
     (hooks_lost g.L.ByteLink.state g.L.ByteLink.start (log_of c.args.calls.now)
     (log_of c.call_next.new.calls) s p w c.args.context c.args.session c.args.tries
-    (o.untried (unnamed c.args.calls.now.at c.requires)) run)
+    (called_tries s (log_of c.args.calls.now) (log_of c.call_next.new.calls) c.args.tries
+    (refusals _ (g.SV.ProxyHttp.mark_of c.args.app.now) c.args.calls.now c.call_next.new.calls
+    c.args.context c.call_next.new.context c.args.session.value c.call_next.new.client
+    (rw c.deref_mut.ensures.value at c.in-OutOfMemory.ensures.turns)) run.holds.are_tries) run)
 
 pub returns-in-OutOfMemory-clause-calls : goal.returns-in-OutOfMemory-clause-calls
 returns-in-OutOfMemory-clause-calls g c = λ o.

@@ -11,22 +11,22 @@ use Rattle.relay_proxy.proofs.opening.turn_down.Goals as goal
 -- the answer is owed
 pub returns-clause-run : goal.returns-clause-run
 returns-clause-run g c =
-    λ s these those p w context client head is request place accepted order untreated untried run.
+    λ s these those p w context client head is request place accepted order untreated tries run.
     hooks_leave g.L.ByteLink.state g.L.ByteLink.start these those [] s p w context client _
     c.args.tries _ _ c.owe.result.phase
     (stop_text c.args.session.value.writing _ head c.new_in-error.result is request place
     (rw c.deref_mut.ensures.value at c.in-Ok.ensures.queued))
     (λ some. (c.owe.ensures.some some).0) (λ none. (c.owe.ensures.none none).0)
     (IsOwedAhead.by_purge head c.new_in-error.result _ accepted order c.new_in-error.ensures refl)
-    untreated untried run
+    untreated tries run
 
 -- memory was wanted for it
 pub returns-in_default-clause-run : goal.returns-in_default-clause-run
 returns-in_default-clause-run g c =
-    λ s these those p w context client head is request place accepted order untreated untried run.
+    λ s these those p w context client head is request place accepted order untreated tries run.
     rw c.lacks_memory.ensures.phase
     (hooks_lost g.L.ByteLink.state g.L.ByteLink.start these those s p w context client c.args.tries
-    untried run)
+    tries run)
 
 -- what is owed goes by the answer
 pub returns-clause-calls : goal.returns-clause-calls

@@ -1,7 +1,7 @@
 -- The exchange is under way over the link and its attempt is held, or memory was wanted for one of
 -- both.
 use Rattle.std.proofs.Common.{refl}
-use Rattle.relay_proxy.proofs.PrepareSteps.{begun, not_begun}
+use Rattle.relay_proxy.proofs.PrepareSteps.{begun, memory_alone, not_begun}
 use Rattle.relay_proxy.proofs.preparing.begin.Goals as goal
 
 -- the exchange is under way over the link that was handed out
@@ -13,10 +13,16 @@ returns-in-Ok-clause-run g c = λ s p w run sends.
     (record { exchange = c.in-Ok.exchange; lease = c.args.lease; context = c.args.context }) run
     sends (rw c.into_inner.ensures at c.in-Ok.ensures.begins))
 
+-- its head has a framing, so it is not begun for want of memory alone
+pub unbegun-requires : goal.unbegun-requires
+unbegun-requires g c =
+    memory_alone c.args.head _ c.in-Err.field-0 refl c.in-Err.ensures.refused
+    c.in-Err.ensures.causes c.requires
+
 -- an exchange that was not begun gives its link back
 pub returns-in-Err-clause-run : goal.returns-in-Err-clause-run
 returns-in-Err-clause-run g c = λ s p w run sends.
-    rw c.closed.ensures.phase
+    rw c.unbegun.ensures.phase
     (not_begun g.L.ByteLink.state g.L.ByteLink.start s p w c.args.context c.args.session
     c.args.link _ c.args.lease c.in-Err.ensures.link run)
 
@@ -28,4 +34,4 @@ returns-in-Ok-clause-asked g c = λ n had.
 -- and so was one over which the exchange was not begun
 pub returns-in-Err-clause-asked : goal.returns-in-Err-clause-asked
 returns-in-Err-clause-asked g c = λ n had.
-    rw (c.closed.ensures.phase, c.in-Err.ensures.link) had
+    rw (c.unbegun.ensures.phase, c.in-Err.ensures.link) had

@@ -8,6 +8,10 @@ use Rattle.relay_proxy.proofs.OpenSteps.{called_tells}
 use Rattle.relay_proxy.proofs.PrepareSteps.{ahead_broken, filtered_badly, filtered_logged, filtered_lost, filtered_relays, filtered_well, lost_counts, lost_logged, made_unended, makes_error, unsent_breaks, unsent_counts}
 use Rattle.relay_proxy.proofs.preparing.prepare.Goals as goal
 
+-- the head that is sent has a framing
+pub begin-requires : goal.begin-requires
+begin-requires g c = c.in-Ok.ensures.framed
+
 -- the exchange begins
 pub returns-in-Ok-clause-run : goal.returns-in-Ok-clause-run
 returns-in-Ok-clause-run g c = λ s p w run.

@@ -13,6 +13,7 @@ returns-in_err-filtered g c =
       makes = filter_fails _ c.args.calls.now c.filter.new.calls c.args.client.now
           c.filter.new.client _ _ c.in_ok-ready.ready _ c.in_err-filtered.ensures.filters;
       at = c.filter.ensures.at;
+      framed = tt;
     })
 
 -- it left a head
@@ -23,6 +24,7 @@ returns g c = record {
         ready = c.in_ok-ready.ready;
         readies = c.in_ok-ready.ensures;
         call = c.in_ok-filtered.ensures.filters;
-      }) c.settled.ensures;
+      }) c.settled.ensures.settles;
   at = c.filter.ensures.at;
+  framed = c.settled.ensures.framed;
 }

@@ -11,7 +11,7 @@ use Rattle.relay_proxy.specs.Turn.{world_of}
 use Rattle.relay_proxy.proofs.BoundLemmas.{answer_bounds, head_turn_bounds, link_turn_bounds, send_turn_bounds, treat_turn_bounds}
 use Rattle.relay_proxy.proofs.RefusalLemmas.{none_added, none_unmade, others_told}
 use Rattle.relay_proxy.proofs.TakenLemmas.{takes_nothing, takes_more, took_more, one_out, no_offers}
-use Rattle.relay_proxy.proofs.TurnLemmas.{broken_counts, broken_faults, broken_offers, broken_turn, head_turn, connect_turn, none_unended, open_step, prepare_turn, head_counts, still_counts, connect_counts, prepare_counts, prepare_faults, prepare_offers, unlinked_open, answer_offers}
+use Rattle.relay_proxy.proofs.TurnLemmas.{broken_counts, broken_faults, broken_offers, broken_turn, head_turn, connect_turn, none_unended, open_step, prepare_turn, head_counts, still_counts, connect_counts, prepare_counts, prepare_faults, prepare_offers, unlinked_asked, unlinked_offers, unlinked_open, unlinked_turn, unlinked_turn_bounds, answer_offers}
 use Rattle.relay_proxy.proofs.CallLemmas.{none_called}
 use Rattle.relay_proxy.proofs.LastCalls.{owing_on}
 use Rattle.relay_proxy.proofs.turn.move_on.Goals as goal
@@ -361,6 +361,90 @@ returns-in-Ended-clause-bounds g c =
       tasks_within = omega (arith, had.tasks_within);
       ends_within = omega (arith, had.ends_within);
     })
+
+-- a turn that has the error of a request without a link answered is a turn
+pub returns-in-Unlinked-clause-turn : goal.returns-in-Unlinked-clause-turn
+returns-in-Unlinked-clause-turn g c =
+    rw (c.go_on-in-Unlinked.ensures.phase, sym c.replace.ensures.value ∙ c.in-Unlinked.is)
+    (λ s p own most calls run. unlinked_turn g.K.Byte.ByteLink.state g.K.Byte.ByteLink.start
+    (called_to s (log_of c.args.calls.now)) (called_to s (log_of c.answer_unlinked.new.calls)) p
+    (world_of g.D.ByteLink.state c.args.client.now
+    (g.K.Connector.fault_count c.args.connector.now))
+    (world_of g.D.ByteLink.state c.args.client.now
+    (g.K.Connector.fault_count c.args.connector.now)) own _ _ _ _ c.answer_unlinked.result.phase
+    run
+    (λ first. c.answer_unlinked.ensures.run s p
+    (world_of g.D.ByteLink.state c.args.client.now
+    (g.K.Connector.fault_count c.args.connector.now)) calls first))
+
+-- its cause
+pub returns-in-Unlinked-clause-cause : goal.returns-in-Unlinked-clause-cause
+returns-in-Unlinked-clause-cause g c =
+    rw (
+      c.go_on-in-Unlinked.ensures.phase,
+      c.go_on-in-Unlinked.ensures.step,
+      sym c.replace.ensures.value ∙ c.in-Unlinked.is,
+    )
+    (c.answer_unlinked.ensures.cause
+    (world_of g.D.ByteLink.state c.args.client.now
+    (g.K.Connector.fault_count c.args.connector.now))
+    (world_of g.D.ByteLink.state c.args.client.now
+    (g.K.Connector.fault_count c.args.connector.now)))
+
+-- it moved or ended
+pub returns-in-Unlinked-clause-hands_on : goal.returns-in-Unlinked-clause-hands_on
+returns-in-Unlinked-clause-hands_on g c =
+    rw c.go_on-in-Unlinked.ensures.step (λ closing. c.answer_unlinked.ensures.step)
+
+-- it counts no use
+pub returns-in-Unlinked-clause-counts : goal.returns-in-Unlinked-clause-counts
+returns-in-Unlinked-clause-counts g c =
+    rw (
+      c.go_on-in-Unlinked.ensures.phase,
+      c.go_on-in-Unlinked.ensures.work,
+      sym c.replace.ensures.value ∙ c.in-Unlinked.is,
+    )
+    (λ s p own n run had. still_counts g.K.Byte.ByteLink.state g.K.Byte.ByteLink.start n
+    c.answer_unlinked.result.work.used _ own c.answer_unlinked.result.phase
+    c.answer_unlinked.ensures.unused
+    (unlinked_asked g.K.Byte.ByteLink.state g.K.Byte.ByteLink.start n own
+    c.answer_unlinked.result.phase c.answer_unlinked.ensures.unlinked had))
+
+-- but one end at most
+pub returns-in-Unlinked-clause-bounds : goal.returns-in-Unlinked-clause-bounds
+returns-in-Unlinked-clause-bounds g c =
+    rw (
+      c.go_on-in-Unlinked.ensures.phase,
+      c.go_on-in-Unlinked.ensures.work,
+      sym c.replace.ensures.value ∙ c.in-Unlinked.is,
+    )
+    (λ s p own tasks ends most calls run had. unlinked_turn_bounds g.K.Byte.ByteLink.state
+    g.K.Byte.ByteLink.start (called_to s (log_of c.args.calls.now))
+    (called_to s (log_of c.answer_unlinked.new.calls)) p
+    (world_of g.D.ByteLink.state c.args.client.now
+    (g.K.Connector.fault_count c.args.connector.now))
+    (world_of g.D.ByteLink.state c.args.client.now
+    (g.K.Connector.fault_count c.args.connector.now)) own _ _ _ _ c.answer_unlinked.result.phase
+    c.answer_unlinked.result.work tasks ends run
+    (λ first. c.answer_unlinked.ensures.run s p
+    (world_of g.D.ByteLink.state c.args.client.now
+    (g.K.Connector.fault_count c.args.connector.now)) calls first)
+    c.answer_unlinked.ensures.counts had)
+
+-- what was taken before it stays so
+pub returns-in-Unlinked-clause-carries : goal.returns-in-Unlinked-clause-carries
+returns-in-Unlinked-clause-carries g c =
+    rw (c.go_on-in-Unlinked.ensures.phase, sym c.replace.ensures.value ∙ c.in-Unlinked.is) (λ live.
+    append-nil _ ∙ unlinked_offers g.K.Byte.ByteLink.start c.in-Unlinked.context
+    c.in-Unlinked.session c.in-Unlinked.attempts c.in-Unlinked.error c.answer_unlinked.result.phase
+    c.answer_unlinked.ensures.no_items c.answer_unlinked.ensures.attempts)
+
+-- and so do the faults with which links were refused
+pub returns-in-Unlinked-clause-tells : goal.returns-in-Unlinked-clause-tells
+returns-in-Unlinked-clause-tells g c =
+    rw (c.go_on-in-Unlinked.ensures.phase, sym c.replace.ensures.value ∙ c.in-Unlinked.is) (λ live.
+    append-nil _ ∙ ap (λ (xs : List AttemptRecord). faults_told xs)
+    (sym c.answer_unlinked.ensures.attempts))
 
 -- a turn that makes the head of an attempt is a turn
 pub returns-in-Prepare-clause-turn : goal.returns-in-Prepare-clause-turn

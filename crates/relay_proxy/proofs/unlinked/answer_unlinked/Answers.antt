@@ -1,0 +1,90 @@
+-- What the application answered the error with is owed, or memory was wanted.
+use Rattle.std.proofs.Common.{List, [], ◌∷◌, ap, arith, refl, subst, sym}
+use Rattle.relay_tasks.specs.Hooks.{same_hook}
+use Rattle.relay_tasks.specs.declared.hook.Hook.{Hook}
+use Rattle.relay_tasks.specs.declared.hook.Hook.TheVariants as hook
+use Rattle.relay_tasks.specs.declared.log.LogEntry.{LogEntry}
+use Rattle.relay_phases.specs.Order.{Station as station}
+use Rattle.relay_proxy.specs.Calls.{log_of}
+use Rattle.relay_proxy.specs.Passed.{Start, called_to}
+use Rattle.relay_proxy.specs.Phases.{RunSoFar}
+use Rattle.relay_proxy.specs.Turn.{Advances}
+use Rattle.relay_proxy.specs.declared.machine.Phase.TheVariants as phase
+use Rattle.relay_proxy.specs.declared.outcome.Outcome.TheVariants as outcome
+use Rattle.relay_proxy.proofs.CallLemmas.{none_called, one_called}
+use Rattle.relay_proxy.proofs.ClosingSteps.{answered_by, queued_by}
+use Rattle.relay_proxy.proofs.LastCalls.{counted_still, lacking_ends, lacking_same, owing_log, owing_on}
+use Rattle.relay_proxy.proofs.TreatLemmas.{ends_with, still_open}
+use Rattle.relay_proxy.proofs.UnlinkedSteps.{left_answered, unlinked_leave, unlinked_lost}
+use Rattle.relay_proxy.proofs.unlinked.answer_unlinked.Goals as goal
+
+-- it was answered
+pub returns-in-Ok-clause-run : goal.returns-in-Ok-clause-run
+returns-in-Ok-clause-run g c = λ s p w o run.
+    let h = rw c.deref_mut.ensures.value at (c.in-Ok.ensures.answers o.at o.fails) in
+    let answers = h.answers in
+    let before = subst
+    (λ (t : Start). RunSoFar g.L.ByteLink.state g.L.ByteLink.start t p w []
+    (phase.Unlinked c.args.context c.args.session c.args.attempts c.args.error))
+    (still_open s (log_of c.args.calls.now) o.unended) run in
+    let done = left_answered s (log_of c.args.calls.now) (answers.turn.e ∷ []) p w
+    c.args.session.value c.answer_error.new.client c.args.attempts c.args.error
+    (answered_by _ answers) (queued_by _ answers) before.holds in
+    subst (λ (l : List LogEntry). Advances g.L.ByteLink.state g.L.ByteLink.start (called_to s l) w
+    c.owe.result.phase) (sym (owing_log _ _ _ _ _ c.owe.ensures.calls))
+    (subst
+    (λ (t : Start). Advances g.L.ByteLink.state g.L.ByteLink.start t w c.owe.result.phase)
+    (sym (ends_with s (log_of c.args.calls.now) (log_of c.answer_error.new.calls) answers.turn.e
+    answers.turn.calls.log o.unended
+    (ap (λ (h : Hook). same_hook hook.FailToProxy h) answers.turn.hook)))
+    (unlinked_leave g.L.ByteLink.state g.L.ByteLink.start (log_of c.args.calls.now)
+    (answers.turn.e ∷ []) s p w c.args.context c.args.session _ c.args.attempts c.args.error
+    done.text c.owe.result.phase done.is_open (λ some. (c.owe.ensures.some some).0)
+    (λ none. (c.owe.ensures.none none).0) done.owed before))
+
+pub returns-in-Ok-clause-calls : goal.returns-in-Ok-clause-calls
+returns-in-Ok-clause-calls g c = λ o.
+    let h = rw c.deref_mut.ensures.value at (c.in-Ok.ensures.answers o.at o.fails) in
+    owing_on _ (g.SV.ProxyHttp.mark_of c.args.app.now) c.answer_error.new.calls c.owe.new.calls _ _
+    c.owe.result.phase c.owe.ensures.calls
+    (lacking_ends _ (g.SV.ProxyHttp.mark_of c.args.app.now) c.args.calls.now
+    c.answer_error.new.calls c.args.context c.args.session.value c.answer_error.new.client
+    c.args.error o h)
+
+pub returns-in-Ok-clause-called : goal.returns-in-Ok-clause-called
+returns-in-Ok-clause-called g c =
+    let h = rw c.deref_mut.ensures.value at (c.in-Ok.ensures.answers station.failing refl) in
+    let answers = h.answers in
+    counted_still c.args.calls.now c.answer_error.new.calls c.owe.new.calls c.owe.result.work
+    (owing_log _ _ _ _ _ c.owe.ensures.calls)
+    (one_called c.args.calls.now c.answer_error.new.calls c.owe.result.work
+    (rw c.owe.ensures.work (omega arith)) answers.turn.e answers.turn.calls.log)
+
+-- memory was wanted
+pub returns-in-Err-clause-run : goal.returns-in-Err-clause-run
+returns-in-Err-clause-run g c = λ s p w o run.
+    let before = subst
+    (λ (t : Start). RunSoFar g.L.ByteLink.state g.L.ByteLink.start t p w []
+    (phase.Unlinked c.args.context c.args.session c.args.attempts c.args.error))
+    (still_open s (log_of c.args.calls.now) o.unended) run in
+    rw c.lacks_memory.ensures.phase
+    (subst (λ (l : List LogEntry). Advances {C = g.row.SV-CTX.Denot} g.L.ByteLink.state
+    g.L.ByteLink.start (called_to s l) w (phase.Ended outcome.OutOfMemory c.args.attempts))
+    (sym c.in-Err.ensures.lost)
+    (subst
+    (λ (t : Start). Advances {C = g.row.SV-CTX.Denot} g.L.ByteLink.state g.L.ByteLink.start t w
+    (phase.Ended outcome.OutOfMemory c.args.attempts))
+    (sym (still_open s (log_of c.args.calls.now) o.unended))
+    (unlinked_lost g.L.ByteLink.state g.L.ByteLink.start (log_of c.args.calls.now) s p w
+    c.args.context c.args.session c.args.attempts c.args.error before)))
+
+pub returns-in-Err-clause-calls : goal.returns-in-Err-clause-calls
+returns-in-Err-clause-calls g c = λ o.
+    rw c.lacks_memory.ensures.phase
+    (lacking_same _ (g.SV.ProxyHttp.mark_of c.args.app.now) c.args.calls.now
+    c.answer_error.new.calls c.args.context c.args.session.value c.in-Err.ensures.lost o)
+
+pub returns-in-Err-clause-called : goal.returns-in-Err-clause-called
+returns-in-Err-clause-called g c =
+    none_called _ _ c.lacks_memory.result.work (rw c.lacks_memory.ensures.work refl)
+    c.in-Err.ensures.lost
