@@ -25,7 +25,7 @@ use Rattle.relay_valid.proofs.UnfitLemmas.{relayed_fit}
 use Rattle.relay_proxy.specs.Ahead.{IsOwedAhead, LetsGo, goes_on}
 use Rattle.relay_proxy.specs.Answer.{past_at}
 use Rattle.relay_proxy.specs.Relayable.{IsAccepted, IsConnect, IsRelayable, NamesUpgrade}
-use Rattle.relay_proxy.specs.Sent.{IsUntreated, Sends, RefusesToSend}
+use Rattle.relay_proxy.specs.Sent.{Sends, RefusesToSend}
 use Rattle.relay_proxy.specs.Passed.{World, Start, origin_of, asked}
 use Rattle.relay_proxy.specs.Endings as endings
 use Rattle.relay_proxy.specs.Endings.{IsTurnedDown, IsLeftAlone, EndsUnlinked, EndsLinked, EndsAhead, IsEnded}

@@ -7,7 +7,7 @@
 --   treated_on, answered_on    the phase behind the treatment, and behind the answer
 --   treated_lost               that where memory was wanted
 use Rattle.std.specs.Global.{Box}
-use Rattle.std.proofs.Common.{◌≡◌, ◌≢◌, ℕ, ◌<◌, Bool, true, false, not, List, [], ◌∷◌, ◌++◌, length, Some, refl, sym, ap, subst, ◌∙◌, inl, inr, arith, append-nil, append_assoc}
+use Rattle.std.proofs.Common.{◌≡◌, ℕ, ◌<◌, Bool, true, false, not, List, [], ◌∷◌, ◌++◌, length, Some, refl, sym, ap, subst, ◌∙◌, inl, inr, arith, append-nil}
 use Rattle.std.specs.Prelude.{◌==◌, ◌⊎◌}
 use Rattle.relay_tasks.specs.Head.{RequestHead}
 use Rattle.relay_tasks.specs.declared.Error.{Error}
@@ -20,7 +20,6 @@ use Rattle.relay_session.specs.Asked.{request_of}
 use Rattle.relay_session.specs.Response.{Holds, HoldsOn, IsOpen, pending}
 use Rattle.relay_session.specs.TaskWire.{Sent, wire}
 use Rattle.relay_session.specs.declared.session.HttpSession.{HttpSession}
-use Rattle.relay_session.specs.declared.task_text.Place.{Place}
 use Rattle.relay_session.specs.declared.task_text.Place.TheVariants as place
 use Rattle.relay_session.specs.declared.task_text.Request.{Request}
 use Rattle.relay_session.specs.declared.writing.Outgoing.{Outgoing}
@@ -39,7 +38,7 @@ use Rattle.relay_proxy.specs.Calls.{log_of, seen_with}
 use Rattle.relay_proxy.specs.Endings.{IsInOrder, IsGiven, FailsToWrite, IsPartRelayed, Misses}
 use Rattle.relay_proxy.specs.Leaving.{Answers}
 use Rattle.relay_proxy.specs.Passed.{World, Start, closed_to, opened_to, IsUnsent, IsUntouched, TellsClient}
-use Rattle.relay_proxy.specs.Phases.{IsBroken, IsCalm, IsConnecting, IsGoing, IsLeased, LeavesAhead, LeavesSession, PhaseHolds, RunSoFar}
+use Rattle.relay_proxy.specs.Phases.{IsBroken, IsCalm, IsGoing, IsLeased, LeavesAhead, LeavesSession, PhaseHolds, RunSoFar}
 use Rattle.relay_proxy.specs.Sent.{IsAnswered, IsTreated}
 use Rattle.relay_proxy.specs.Tries.{tries_in}
 use Rattle.relay_proxy.specs.Turn.{Advances}
@@ -48,7 +47,6 @@ use Rattle.relay_proxy.specs.declared.machine.Lease.{Lease}
 use Rattle.relay_proxy.specs.declared.machine.Phase.{Phase}
 use Rattle.relay_proxy.specs.declared.machine.Phase.TheVariants.{Broken, Fail, Close}
 use Rattle.relay_proxy.specs.declared.outcome.Outcome.TheVariants as outcome
-use Rattle.relay_proxy.specs.declared.record.AttemptRecord.{AttemptRecord}
 use Rattle.relay_proxy.proofs.AnswerSteps.{ends_missed}
 use Rattle.relay_proxy.proofs.CutLemmas.{cut_next}
 use Rattle.relay_proxy.proofs.NamedLemmas.{TellsSame, tells_same}

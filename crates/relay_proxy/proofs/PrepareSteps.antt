@@ -6,14 +6,12 @@
 --   sends_by, refuses_by       what became of the head
 --   link_lost .. ahead_broken  an attempt that ends ahead of its exchange
 --   begun .. not_begun         its exchange
-use Rattle.std.proofs.Common.{◌≡◌, ℕ, ◌<◌, Bool, false, true, List, [], ◌++◌, length, Option, Some, None, refl, sym, ap, subst, ◌∙◌, inl, inr, arith, true≢false}
+use Rattle.std.proofs.Common.{◌≡◌, ℕ, Bool, false, true, List, [], Option, Some, None, refl, sym, ap, subst, ◌∙◌, inl, inr, arith, true≢false}
 use Rattle.std.specs.Global.{Box}
 use Rattle.std.specs.Prelude.{◌↔◌, IsSome, IsTrue, Result, Ok, Err}
 use Rattle.relay_tasks.specs.declared.error.Error.{Error}
-use Rattle.relay_tasks.specs.declared.error.ErrorSource.TheVariants.{Internal}
 use Rattle.relay_tasks.specs.declared.error.Fail.{Fail}
 use Rattle.relay_tasks.specs.declared.error.Fail.TheVariants as fail
-use Rattle.relay_tasks.specs.declared.context.Context.TheVariants.{BadFraming}
 use Rattle.relay_tasks.specs.declared.Peer.{Peer}
 use Rattle.relay_tasks.specs.declared.hook.Hook.{Hook}
 use Rattle.relay_tasks.specs.declared.hook.Hook.TheVariants as hook
@@ -25,7 +23,6 @@ use Rattle.relay_links.specs.Link.{LinkState, LinkStart, IsHandedOut}
 use Rattle.relay_links.specs.Told.{Since}
 use Rattle.relay_links.proofs.SinceLemmas.{Since-start}
 use Rattle.relay_h1.specs.Framing.{request_framing}
-use Rattle.relay_h1.specs.Verdict.{refused_from}
 use Rattle.relay_h1.specs.declared.framing.Framing.{Framing}
 use Rattle.relay_authority.specs.Stage.{Makes}
 use Rattle.relay_session.specs.Reading.{is_body_done}
@@ -51,7 +48,7 @@ use Rattle.relay_proxy.specs.Calls.{CountsCalls, GoesOn, IsBreaking, IsLogged, I
 use Rattle.relay_proxy.specs.Named.{IsNamed}
 use Rattle.relay_proxy.specs.Preparing.{FiltersReady, MakesHead, Prepares, Settles, Unprepared}
 use Rattle.relay_proxy.specs.Sent.{Filters, Sends, RefusesToSend, SettlesFramed, asked_in, client_in, client_of, unframed}
-use Rattle.relay_proxy.specs.Endings.{IsInOrder, EndsLinked}
+use Rattle.relay_proxy.specs.Endings.{IsInOrder}
 use Rattle.relay_proxy.specs.Tries.{AreTries, tries_in}
 use Rattle.relay_proxy.specs.Passed.{World, Start, begins_end, opened_to, origin_of, TellsClient, IsUnsent, IsUntouched}
 use Rattle.relay_proxy.specs.Phases.{IsBroken, IsConnecting, IsLeased, IsRelaying, LeavesAhead, PhaseHolds, RunSoFar}
@@ -64,7 +61,6 @@ use Rattle.relay_proxy.specs.declared.machine.Lease.{Lease}
 use Rattle.relay_proxy.specs.declared.machine.Phase.TheVariants.{Connect, Prepare, Relay, Close}
 use Rattle.relay_proxy.specs.declared.machine.Phase.TheVariants as phase
 use Rattle.relay_proxy.specs.declared.record.AttemptRecord.{AttemptRecord}
-use Rattle.relay_proxy.specs.declared.outcome.Outcome.{Outcome}
 use Rattle.relay_proxy.specs.declared.outcome.Outcome.TheVariants as outcome
 use Rattle.relay_proxy.specs.declared.work.Work.{Work}
 use Rattle.relay_proxy.proofs.ConnectSteps.{no_limit, part_relayed}

@@ -1,5 +1,5 @@
 -- What a failed exchange leaves, and what an attempt comes to whose error was treated.
-use Rattle.std.specs.Prelude.{◌≡◌, ℕ, ◌<◌, Bool, false, [], length, Some}
+use Rattle.std.specs.Prelude.{◌≡◌, ◌<◌, Bool, false, [], length, Some}
 use Rattle.std.specs.Global.{Box}
 use Rattle.relay_tasks.specs.declared.Error.{Error}
 use Rattle.relay_tasks.specs.declared.error.Fail.{Fail}

@@ -1,7 +1,6 @@
 //! The calls of an application for one request: what its hooks are shown, the log of their calls,
 //! and which of them comes next (RFC 9110, section 3.7).
 ghost use Rattle.std.specs.Prelude.{◌≡◌, ◌+◌, [], false, true, length, None, IfOk, IfSome, IsOkUnless, IsSome, IsTrue, OnErr, OnOk, is_some, if◌then◌else◌};
-ghost use Rattle.relay_modules.specs.declared.seen.Seen.{Seen};
 ghost use Rattle.relay_session.specs.Reading.{head_of};
 ghost use Rattle.relay_session.specs.Response.{has_head};
 ghost use Rattle.relay_opening.specs.Place.{is_open};

@@ -1,10 +1,9 @@
 //! The hooks up to the peer that an attempt is to reach: one is called a turn, until that is named, or
 //! they answer the request or stop it (RFC 9110, section 3.7).
-ghost use Rattle.std.specs.Prelude.{◌≡◌, ◌⊎◌, ◌+◌, ◌≤◌, ◌<◌, [], ℕ, List, None, Some, length, true, false};
+ghost use Rattle.std.specs.Prelude.{◌≡◌, ◌⊎◌, ◌+◌, ◌≤◌, ◌<◌, [], ℕ, List, None, Some, true, false};
 ghost use Rattle.std.specs.Global.{Box};
 ghost use Rattle.relay_links.specs.Link.{LinkState};
 ghost use Rattle.relay_session.specs.Asked.{request_of};
-ghost use Rattle.relay_session.specs.Response.{pending};
 ghost use Rattle.relay_session.specs.declared.session.HttpSession.{HttpSession};
 ghost use Rattle.relay_session.specs.declared.task_text.Place.{Place};
 ghost use Rattle.relay_session.specs.declared.writing.Outgoing.{Outgoing};
@@ -25,7 +24,6 @@ ghost use Rattle.relay_proxy.specs.Taken.{TakesAfter};
 ghost use Rattle.relay_proxy.specs.Tries.{AreTries};
 ghost use Rattle.relay_proxy.specs.Turn.{world_with, DoesWork, is_connecting, is_over, is_end, links_held, Advances, HasCause};
 ghost use Rattle.relay_proxy.specs.Uses.{OwesAnswer, PhaseUses};
-ghost use Rattle.relay_proxy.specs.declared.outcome.Outcome.{Outcome};
 ghost use Rattle.relay_tasks.specs.declared.ErrorSource.{ErrorSource};
 
 use crate::answering::owe;

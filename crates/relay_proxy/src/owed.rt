@@ -1,7 +1,6 @@
 //! What a request still owes its client, and the answer that is written for it (RFC 9110, section
 //! 15).
 ghost use Rattle.std.specs.Prelude.{◌≡◌, OnOk};
-ghost use Rattle.relay_tasks.specs.Head.{IsStatus};
 ghost use Rattle.relay_proxy.specs.Answer.{QueuesAnswer};
 ghost use Rattle.relay_proxy.specs.Owed.{outcome_owed, outcome_failed};
 

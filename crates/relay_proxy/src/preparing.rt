@@ -3,26 +3,21 @@
 //! 9112, section 3.2).
 ghost use Rattle.std.specs.Prelude.{◌≡◌, ◌⊎◌, ◌≤◌, [], ◌∷◌, ℕ, false, None, Some, IsSome, IfErr, IfOk};
 ghost use Rattle.std.specs.Global.{Box};
-ghost use Rattle.relay_tasks.specs.Head.{RequestHead};
 ghost use Rattle.relay_attempt.specs.Head.{link_of};
 ghost use Rattle.relay_attempt.specs.Passed.{Passed};
 ghost use Rattle.relay_authority.specs.Stage.{Makes};
-ghost use Rattle.relay_authority.specs.Upstream.{ReadyHead};
-ghost use Rattle.relay_authority.specs.declared.upstream.Upstream.TheVariants as over;
 ghost use Rattle.relay_h1.specs.Framing.{request_framing};
-ghost use Rattle.relay_links.specs.Link.{IsHandedOut};
-ghost use Rattle.relay_session.specs.Reading.{head_of};
 ghost use Rattle.relay_proxy.specs.Bound.{CountsSend};
 ghost use Rattle.relay_proxy.specs.Calls.{BeginsCalls, CallsSoFar, CountsCalls, IsUnended, allowed_by, log_of};
 ghost use Rattle.relay_proxy.specs.Endings.{IsInOrder};
-ghost use Rattle.relay_proxy.specs.Passed.{World, Start, opened_to, IsUntouched, TellsClient};
-ghost use Rattle.relay_proxy.specs.Phases.{IsConnecting, IsRelaying, RunSoFar};
+ghost use Rattle.relay_proxy.specs.Passed.{World, Start, opened_to, TellsClient};
+ghost use Rattle.relay_proxy.specs.Phases.{IsRelaying, RunSoFar};
 ghost use Rattle.relay_proxy.specs.Preparing.{MakesHead, Readies, Settles};
 ghost use Rattle.relay_proxy.specs.Sent.{Sends, unframed};
 ghost use Rattle.relay_proxy.specs.Refusals.{attempts_in};
 ghost use Rattle.relay_proxy.specs.Stock.{items_held};
 ghost use Rattle.relay_proxy.specs.Tries.{tries_in};
-ghost use Rattle.relay_proxy.specs.Uses.{LinkUses, OwesAnswer, PhaseUses};
+ghost use Rattle.relay_proxy.specs.Uses.{LinkUses, PhaseUses};
 ghost use Rattle.relay_proxy.specs.Turn.{DoesWork, held_state, is_over, is_end, links_held, Advances, HasCause};
 
 use crate::calls::{Calls, filter};

@@ -2,7 +2,6 @@
 //! has ended (RFC 9112, section 9.3).
 ghost use Rattle.std.specs.Prelude.{◌≡◌, ◌⊎◌, ◌+◌, ◌<◌, ℕ, [], ◌∷◌, None, Some, true, false, if◌then◌else◌};
 ghost use Rattle.std.specs.Global.{Box};
-ghost use Rattle.relay_links.specs.Link.{LinkState};
 ghost use Rattle.relay_core.specs.Asked.{WaitRose};
 ghost use Rattle.relay_core.specs.Causes.{says_failed};
 ghost use Rattle.relay_session.specs.Reading.{head_of};

@@ -1,7 +1,6 @@
 //! One turn of a request, by the phase in which it stands.
 ghost use Rattle.std.specs.Prelude.{◌≡◌, ◌⊎◌, ◌+◌, ◌≤◌, ℕ, List, [], ◌++◌, Some, true, false};
 ghost use Rattle.std.specs.Global.{Box};
-ghost use Rattle.relay_links.specs.Link.{LinkState};
 ghost use Rattle.relay_links.specs.Told.{Gains};
 ghost use Rattle.relay_attempt.specs.Passed.{Passed};
 ghost use Rattle.relay_proxy.specs.Bound.{PhaseCounts, TurnedCounts};

@@ -1,5 +1,5 @@
 -- More waits, or the answer was written whole.
-use Rattle.std.proofs.Common.{refl, sym}
+use Rattle.std.proofs.Common.{refl}
 use Rattle.relay_proxy.specs.Calls.{Owing}
 use Rattle.relay_proxy.proofs.answering.took.Goals as goal
 
