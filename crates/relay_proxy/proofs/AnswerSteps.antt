@@ -400,8 +400,8 @@ module _ {L : Type 0} (state : L → LinkState) (start_at : L → LinkStart) whe
     untreated = owes.2;
   }
 
-  -- hooks ended the request, for an error or for none, and its client was given what it is owed, or a
-  -- write failed
+  -- hooks ended the request, for an error or for none, and its client was given what it is owed, or
+  -- a write failed
   pub ends_ahead : (s : Start) (p : Passed) (w : World) (own : List (Returned L))
       (why told : Option Error) (text : List ℕ) (attempts : List AttemptRecord)
       → Owes state start_at s p w own (Ahead why) text → IsGivenAhead s p w why text told

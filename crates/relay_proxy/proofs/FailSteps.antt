@@ -1,5 +1,5 @@
--- What a failed attempt leaves: its error is treated, its link goes back, and its client is given what
--- it is owed.
+-- What a failed attempt leaves: its error is treated, its link goes back, and its client is given
+-- what it is owed.
 --
 --   queued_by                  what waits in its session, once the answer was queued
 --   leaves_part, broken_part   what passed is a part of one exchange, or nothing
@@ -224,7 +224,8 @@ module _ {L C : Type 0} (state : L → LinkState) (start_at : L → LinkStart)
 
 -- ---- the error is treated and answered
 
--- what the client is owed of an attempt whose error was treated, over this link, and what waits of it
+-- what the client is owed of an attempt whose error was treated, over this link, and what waits of
+-- it
 record Owing (s : Start) (p : Passed) (w : World) (link : LinkState) (start : LinkStart)
     (keep : Bool) (e : Error) (output : Outgoing) : Type 0 where
   text : List ℕ

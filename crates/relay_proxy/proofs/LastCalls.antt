@@ -1,4 +1,5 @@
--- The calls of the end of a request: where they stand behind a turn that calls none, and behind one.
+-- The calls of the end of a request: where they stand behind a turn that calls none, and behind
+-- one.
 --
 --   unended_unlogged            before the end `logging` was not called
 --   views_shown .. ends_failed  the session changed, of which hooks are shown the same

@@ -395,8 +395,8 @@ hooks_answer allows c d client left mark behind which from how s p w tries waiti
     (subst (λ (r : Request). IsAnswerOf r t.e.wrote answer.tasks) request answer.is_answer))
     (answer.text ∙ ap (λ (r : Request). (wire r stands.NoHead answer.tasks).text) request)
 
--- a hook stopped the request with that error, the application answered it, and what waits is what it
--- queued
+-- a hook stopped the request with that error, the application answered it, and what waits is what
+-- it queued
 pub record IsStopped (s : Start) (p : Passed) (left : HttpSession) (e : Error) : Type 0 where
   pub text : List ℕ
   pub is_open : left.writing.output ≡ outgoing.Open text

@@ -49,8 +49,8 @@ pub record LetsGo (called : List LogEntry) : Type 0 where
   pub order : Accepts accepted before at
   pub goes : goes_on at ≡ true
 
--- what the client is given where hooks queued these tasks to answer a request: them; and the relay's
--- own 502 behind them, where no final head is among them
+-- what the client is given where hooks queued these tasks to answer a request: them; and the
+-- relay's own 502 behind them, where no final head is among them
 pub data IsAnswerOf (request : Request) (wrote : List HttpTask) : List HttpTask → Type 0 where
   as_queued : (is_whole wrote ≡ true) ⊎ (has_head (wire request place.NoHead wrote).place ≡ true)
       → IsAnswerOf request wrote wrote

@@ -47,8 +47,8 @@ module _ {L : Type 0} (state : L → LinkState) (start_at : L → LinkStart) whe
   OwnGave (r ∷ []) got = LinkGave r.link got
   OwnGave (r ∷ q ∷ own) got = ⊥
 
-  -- what a request counted is bounded: each turn did some work or called a hook, the tasks are no more than twice
-  -- the bytes that its links gave, and the ends are few
+  -- what a request counted is bounded: each turn did some work or called a hook, the tasks are no
+  -- more than twice the bytes that its links gave, and the ends are few
   pub record IsBounded (s : Start) (client : LinkState) (own : List (Returned L))
       (history : RunRecord) : Type 0 where
     pub worked : history.turns_taken
@@ -187,8 +187,8 @@ CountsSend before (Close link lease keep outcome) work =
 CountsSend before (Answer session owed attempts) work = ⊥
 CountsSend before (Ended outcome attempts) work = ⊥
 
--- what a turn counts that has the error of an attempt treated or answered behind those: no task, and
--- one end where memory was wanted
+-- what a turn counts that has the error of an attempt treated or answered behind those: no task,
+-- and one end where memory was wanted
 abbrev pub CountsTreat : {L C : Type 0} → List AttemptRecord → Phase L C → Work → Type 0
 CountsTreat before ReadHead work = ⊥
 CountsTreat before (Connect context session tries) work = ⊥

@@ -236,8 +236,8 @@ station_at at.Linked = station.linked
 station_at (at.Treated error) = station.failing
 station_at (at.Closing held there) = station.told
 
--- the request goes on there: another hook comes next, an error is to be answered, or the connector is
--- asked
+-- the request goes on there: another hook comes next, an error is to be answered, or the connector
+-- is asked
 abbrev pub Goes : {K : Type 0} → Place K → Type 0
 Goes (place.Behind last) = Unit {0}
 Goes (place.Ended end.Attempts) = Unit {0}
@@ -307,8 +307,8 @@ IsToldOf (at.Treated error) e = Unit {0}
 IsToldOf (at.Closing held there) e = Unit {0}
 
 module _ (allows : Standing → LogEntry → Type 0) where
-  -- a hook of an attempt was called, which queued nothing, and behind which the request goes on; the
-  -- log tells the peer that was named, or the error
+  -- a hook of an attempt was called, which queued nothing, and behind which the request goes on;
+  -- the log tells the peer that was named, or the error
   pub record CallsOfAttempt {K X : Type 0} (here : At K X) (has_modules : Bool) (old : Seen)
       (before : ℕ) (new : Seen) (behind : ℕ) (to : At K X) : Type 0 where
     pub later : is_before here ≡ false
@@ -321,8 +321,8 @@ module _ (allows : Standing → LogEntry → Type 0) where
     pub goes : GoesOn to
     pub tells : TellsPeer to new.log
 
-  -- from there the hook that comes next was called, and led to that: one before the attempts, or one
-  -- of an attempt; out of memory no entry is new, wherever it stood
+  -- from there the hook that comes next was called, and led to that: one before the attempts, or
+  -- one of an attempt; out of memory no entry is new, wherever it stood
   pub data TakesNext {K X : Type 0} (here : At K X) (has_modules : Bool) (old : Seen) (before : ℕ)
       (new : Seen) (behind : ℕ) (to : At K X) : Type 0 where
     leads : is_before here ≡ true → (which : Hook) → comes_next here has_modules ≡ Some which
@@ -347,8 +347,8 @@ abbrev pub allowed_by : {M : Type 0} → (Standing → LogEntry → Type 0) → 
     → Standing → LogEntry → Type 0
 allowed_by {M} allows modules = IsAllowed allows (λ call. (made : M) × modules made call)
 
--- the calls of the log lead from one standing to the other, each allowed where it stood, and come in
--- order from the head that was accepted to that station
+-- the calls of the log lead from one standing to the other, each allowed where it stood, and come
+-- in order from the head that was accepted to that station
 pub record IsLogged (allows : Standing → LogEntry → Type 0) (log : List LogEntry)
     (station : Station) : Type 0 where
   pub from : Standing
@@ -460,8 +460,8 @@ module _ {C M K : Type 0} (allows : Standing → LogEntry → Type 0) (mark_of :
   EndsBy (at.Treated treated) calls client error = ⊥
   EndsBy (at.Closing held there) calls client error = StandsBy calls held client error there
 
-  -- the same of what a request owes its client: of one that was turned down none was called; and one
-  -- that hooks answered stands behind their answer
+  -- the same of what a request owes its client: of one that was turned down none was called; and
+  -- one that hooks answered stands behind their answer
   abbrev pub IsOwing : Calls M K C → HttpSession → Owed → Type 0
   IsOwing calls client (owing.Refused error) = log_of calls ≡ []
   IsOwing calls client (owing.Ahead None) =
@@ -480,8 +480,8 @@ module _ {C M K : Type 0} (allows : Standing → LogEntry → Type 0) (mark_of :
   HasCome calls OutOfMemory = (at : Station) × IsLogged allows (log_of calls) at
 
 module _ {C M K : Type 0} (allows : Standing → LogEntry → Type 0) (mark_of : C → ℕ) where
-  -- the hooks up to the exchange, so far, behind those attempts: each call of them stands in the log,
-  -- which ends at the mark of the context that is held, and the request goes on
+  -- the hooks up to the exchange, so far, behind those attempts: each call of them stands in the
+  -- log, which ends at the mark of the context that is held, and the request goes on
   pub record IsOpening (calls : Calls M K C) (context : C) (client : HttpSession)
       (tries : List AttemptRecord) : Type 0 where
     pub first : Seen
@@ -646,9 +646,9 @@ abbrev pub ShowsSame : HttpSession → HttpSession → Type 0
 ShowsSame left client =
     (left.reading ≡ client.reading) × (left.writing.place ≡ client.writing.place)
 
--- what a request comes to that owes its client that, where that is its session: it owes it still; it
--- has ended, its answer written or a write of it failed, and the session has its client again; or
--- memory was wanted. No hook is called
+-- what a request comes to that owes its client that, where that is its session: it owes it still;
+-- it has ended, its answer written or a write of it failed, and the session has its client again;
+-- or memory was wanted. No hook is called
 pub data Owing {L C M K : Type 0} (client : HttpSession) (owed : Owed) (old new : Calls M K C)
     (next : Phase L C) : Type 0 where
   waits : (session : Box HttpSession) → OwesIn next session owed → ShowsSame session.value client

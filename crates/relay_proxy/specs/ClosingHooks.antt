@@ -57,8 +57,8 @@ failed_with (place.At at) (Some e) = place.At (failed_to at e)
 failed_with (place.Ended how) (Some e) = place.Ended how
 failed_with place.Lost (Some e) = place.Lost
 
--- the outcome that is given of a request that was served so: turns or memory ran out in the hooks of
--- its end, or not
+-- the outcome that is given of a request that was served so: turns or memory ran out in the hooks
+-- of its end, or not
 abbrev pub given_served : {K : Type 0} → Place K → Option Error → Bool → Outcome
 given_served there error reuse =
     if calls_next there reuse then outcome.TurnLimit else

@@ -64,9 +64,9 @@ IsNext (Some at) order =
     (order.closing ≡ []) × IsFrontOf (order.batched ++ at ∷ []) order.read
 
 -- what was sent and what was written, whatever the outcome: nothing; the front of a generated
--- answer, or of what hooks answered, with nothing sent; those of one exchange, whose request is of a
--- form that is relayed; or those of one that failed when a part had been written: the front of what
--- was queued, with the answer to its error, as it was treated, behind it
+-- answer, or of what hooks answered, with nothing sent; those of one exchange, whose request is of
+-- a form that is relayed; or those of one that failed when a part had been written: the front of
+-- what was queued, with the answer to its error, as it was treated, behind it
 pub data IsInOrder (s : Start) (p : Passed) : Type 0 where
   is_nothing : p.written ≡ [] → p.sent ≡ [] → IsInOrder s p
   is_refusal : (answer : List ℕ) (error : Option Error) → IsTurnedDown (asked s p) answer error
@@ -390,8 +390,8 @@ pub record IsPartAnswered
   pub part : IsFrontOf p.written text
 
 -- what passed where the request was not brought to an end: a part of one exchange, or nothing but
--- bytes of the client, and the link is not kept; or, by the error with which the attempt had failed,
--- a part of what the client is owed
+-- bytes of the client, and the link is not kept; or, by the error with which the attempt had
+-- failed, a part of what the client is owed
 abbrev pub IsPart : Start → Passed → World → LinkState → LinkStart → Bool → Option Error → Type 0
 IsPart s p w link start keep None =
     (IsPartRelayed s p link start ⊎ ((p.written ≡ []) × IsUnsent p)) × (keep ≡ false)
@@ -452,8 +452,8 @@ IsPartRefused s p =
     ⊎ ((answer : List ℕ) × (error : Option Error) × IsTurnedDown (asked s p) answer error
     × IsFrontOf p.written answer)
 
--- the attempts of a request that hooks ended: none where they answered it; where they stopped it with
--- an error, those that were given no link before
+-- the attempts of a request that hooks ended: none where they answered it; where they stopped it
+-- with an error, those that were given no link before
 abbrev pub MadeAhead : Start → Option Error → List AttemptRecord → Type 0
 MadeAhead s None attempts = attempts ≡ []
 MadeAhead s (Some e) attempts = AreTries s attempts

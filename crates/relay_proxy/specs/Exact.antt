@@ -64,8 +64,8 @@ module _ {L : Type 0} (state : L → LinkState) (start_at : L → LinkStart) whe
     -- the client ended inside its head, or the head names Upgrade
     pub not_relayed : (e : Error) → IsLeftAlone s p w e
         → IsUnfinished outcome ⊎ IsLeft s p w outcome
-    -- the response is broken, cut off, or switches protocols, whatever head is sent of the client's,
-    -- which is a HEAD exactly where that is one
+    -- the response is broken, cut off, or switches protocols, whatever head is sent of the
+    -- client's, which is a HEAD exactly where that is one
     pub unfit : (r : Returned L) (head : RequestHead) → own ≡ r ∷ [] → IsAccepted s p head
         → ((sent : RequestHead) → Sends s.called head sent → AsksAlike head sent)
         → ((sent : RequestHead) → Sends s.called head sent

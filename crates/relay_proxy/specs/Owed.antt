@@ -42,8 +42,8 @@ outcome_failed (Served e) fault = outcome.Served (Some e) false
 
 module _ {L : Type 0} (state : L → LinkState) (start_at : L → LinkStart) where
   -- why the client is given that text, by the links that the request handed back: its head was
-  -- turned down; hooks answered it or stopped it; the last attempt was given no link; or the attempt
-  -- over its link failed
+  -- turned down; hooks answered it or stopped it; the last attempt was given no link; or the
+  -- attempt over its link failed
   abbrev pub Owes : Start → Passed → World → List (Returned L) → Owed → List ℕ → Type 0
   Owes s p w [] (Refused error) text = IsTurnedDown (asked s p) text error × IsUnsent p
   Owes s p w [] (Ahead why) text =

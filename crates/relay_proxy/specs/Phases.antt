@@ -38,8 +38,8 @@ pub record IsReadingHead (s : Start) (p : Passed) (ahead : List ℕ) : Type 0 wh
   pub written : p.written ≡ []
   pub unsent : IsUnsent p
 
--- the head was accepted, which hooks then may have changed, and a link is wanted for the session that
--- begins behind it, after those attempts; nothing was queued for the client
+-- the head was accepted, which hooks then may have changed, and a link is wanted for the session
+-- that begins behind it, after those attempts; nothing was queued for the client
 pub record IsConnecting (s : Start) (p : Passed) (w : World) (session : HttpSession)
     (tries : List AttemptRecord) : Type 0 where
   pub head : RequestHead
@@ -103,8 +103,8 @@ pub record LeavesAhead (s : Start) (p : Passed) (w : World) (link : LinkState) (
   pub fresh : IsHandedOut link start lease.reused
   pub why : RefusesToSend s.called connecting.head keep e
 
--- an attempt failed with that error, which is to be treated, over a link that is kept then or not: in
--- its exchange, or ahead of it
+-- an attempt failed with that error, which is to be treated, over a link that is kept then or not:
+-- in its exchange, or ahead of it
 pub data IsBroken (s : Start) (p : Passed) (w : World) (link : LinkState) (start : LinkStart)
     (session : HttpSession) (lease : Lease) (keep : Bool) (e : Error) : Type 0 where
   in_exchange : LeavesSession s p w.client link start session e → keep ≡ false
@@ -113,7 +113,8 @@ pub data IsBroken (s : Start) (p : Passed) (w : World) (link : LinkState) (start
       → IsBroken s p w link start session lease keep e
 
 module _ {L : Type 0} (state : L → LinkState) (start_at : L → LinkStart) where
-  -- the error of an attempt was treated, and its client is owed an answer, or what was queued for it
+  -- the error of an attempt was treated, and its client is owed an answer, or what was queued for
+  -- it
   pub record IsFailing (s : Start) (p : Passed) (w : World) (link : L) (keep : Bool)
       (session : HttpSession) (e : Error) : Type 0 where
     pub text : List ℕ

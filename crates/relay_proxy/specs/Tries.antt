@@ -1,5 +1,5 @@
--- The attempts of a request that were given no link, as its calls tell them, and when another follows:
--- nothing was sent in them, so each request may be tried again (RFC 9110, section 9.2.2).
+-- The attempts of a request that were given no link, as its calls tell them, and when another
+-- follows: nothing was sent in them, so each request may be tried again (RFC 9110, section 9.2.2).
 use Rattle.std.specs.Prelude.{◌≡◌, ◌≢◌, ℕ, ◌<◌, false, true, All, List, [], ◌∷◌, ◌++◌, length, map, Option, None, Some, if◌then◌else◌}
 use Rattle.relay_tasks.specs.Error.{error_of_fault, may_retry}
 use Rattle.relay_tasks.specs.Hooks.{same_hook}
@@ -37,7 +37,8 @@ refusal_with peer (item.Failure raised) (item.Failure treated) =
     record { peer = peer; raised = raised; treated = treated } ∷ []
 refusal_with peer told answered = []
 
--- the one of which a call tells, where that peer was named last: `fail_to_connect` alone tells of one
+-- the one of which a call tells, where that peer was named last: `fail_to_connect` alone tells of
+-- one
 abbrev pub refusal_at : Option Peer → LogEntry → List Refusal
 refusal_at None e = []
 refusal_at (Some peer) e =
@@ -58,8 +59,8 @@ refusals_in called = refusals_from None called
 abbrev pub upstream_error : Error → Error
 upstream_error treated = record treated { esource = Upstream }
 
--- the record of an attempt at that peer which was given no link, with that fault, and whose error is
--- that one
+-- the record of an attempt at that peer which was given no link, with that fault, and whose error
+-- is that one
 abbrev pub unlinked_record : Peer → Fault → Error → AttemptRecord
 unlinked_record peer fault e = record {
   peer = peer;
@@ -109,8 +110,8 @@ pub record IsRefusedFor (called : List LogEntry) (e : Error) : Type 0 where
   pub raised : IsRaised last
   pub error : e ≡ upstream_error last.treated
 
--- the attempts of a request whose last one failed with that error, for it was given no link: they are
--- those of which the calls tell, and no other one could follow
+-- the attempts of a request whose last one failed with that error, for it was given no link: they
+-- are those of which the calls tell, and no other one could follow
 pub record EndsTrying (s : Start) (attempts : List AttemptRecord) (e : Error) : Type 0 where
   pub refused : IsRefusedFor s.called e
   pub told : attempts ≡ map record_of (refusals_in s.called)

@@ -148,9 +148,10 @@ module _ {L C : Type 0} (state : L → LinkState) (start_at : L → LinkStart) w
     pub goes_on : next ≡ Connect context session tries
 
   -- what a turn moved: bytes of the client's head came, or it was judged; a hook was called; a link
-  -- was given, or none and another attempt follows; the exchange over that link began; the client is
-  -- owed an answer for one of these; a branch of the exchange moved, or it failed and the client is
-  -- owed an answer, which the treatment of an attempt's error leads to; or bytes of that were taken
+  -- was given, or none and another attempt follows; the exchange over that link began; the client
+  -- is owed an answer for one of these; a branch of the exchange moved, or it failed and the client
+  -- is owed an answer, which the treatment of an attempt's error leads to; or bytes of that were
+  -- taken
   abbrev pub HasMoved : World → World → Phase L C → Phase L C → Type 0
   HasMoved w x ReadHead next = HasGiven w.client x.client ⊎ (is_reading_head next ≡ false)
   HasMoved w x (Connect context session tries) next =

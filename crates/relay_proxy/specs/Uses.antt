@@ -120,7 +120,8 @@ module _ {L C : Type 0} (state : L → LinkState) (start_at : L → LinkStart) w
 
 -- ---- what moved in an exchange
 
--- hooks or an attempt ended the request, and its client is owed an answer, or what was queued for it
+-- hooks or an attempt ended the request, and its client is owed an answer, or what was queued for
+-- it
 abbrev pub OwesAnswer : {L C : Type 0} → Phase L C → Type 0
 OwesAnswer ReadHead = ⊥
 OwesAnswer (Connect context session tries) = ⊥

@@ -148,8 +148,9 @@ impl<K: Drop, C: Drop> At<K, C> {
     }
 }
 
-/// What a call of a hook before a link was given led to: the request goes on, to another hook, to the
-/// answer of its error or to the connector; it was answered; it is a purge; or memory was wanted.
+/// What a call of a hook before a link was given led to: the request goes on, to another hook, to
+/// the answer of its error or to the connector; it was answered; it is a purge; or memory was
+/// wanted.
 #[derive(Clone, Copy)]
 pub(crate) enum Opened {
     GoesOn,

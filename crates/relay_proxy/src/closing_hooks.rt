@@ -1,5 +1,5 @@
-//! The hooks at the end of a request: which is called next, and the outcome that is given (RFC 9110,
-//! section 3.7).
+//! The hooks at the end of a request: which is called next, and the outcome that is given (RFC
+//! 9110, section 3.7).
 ghost use Rattle.std.specs.Prelude.{◌≡◌};
 ghost use Rattle.relay_proxy.specs.ClosingHooks.{calls_next, failed_with, given, kept_in};
 
@@ -31,8 +31,8 @@ pub(crate) fn failed_with<K>(place: Place<K>, error: Option<Error>) -> Place<K>
     }
 }
 
-/// The outcome that is given of a request that came to that one, where its end stands there: turns or
-/// memory ran out in its hooks, or not.
+/// The outcome that is given of a request that came to that one, where its end stands there: turns
+/// or memory ran out in its hooks, or not.
 pub(crate) fn given<K>(place: &Place<K>, came: Outcome) -> Outcome
     ensures { result ≡ given place.now came }
 {

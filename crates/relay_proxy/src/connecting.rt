@@ -1,5 +1,5 @@
-//! The connector: asked for a link to the peer that was named, of which the application is told, and
-//! over which the attempt then goes. Where it refuses one the application treats the error, and
+//! The connector: asked for a link to the peer that was named, of which the application is told,
+//! and over which the attempt then goes. Where it refuses one the application treats the error, and
 //! another attempt follows where that lets one, while the request may make a further attempt (RFC
 //! 9110, section 9.2.2): nothing of the request was sent then.
 ghost use Rattle.std.specs.Prelude.{◌≡◌, ◌⊎◌, ◌↔◌, ◌+◌, ◌≤◌, [], ◌∷◌, ◌++◌, length, ℕ, List, IsTrue, false};
@@ -92,8 +92,8 @@ impl Lacking {
 
 /// Asks the connector for a link to the peer that was named, behind those attempts, and tells the
 /// application of the link, or that there is none. Room for the attempt's record is made first, and
-/// both peers. Where the connector gives none another attempt may follow, while the request has made
-/// less than `most`; else the client is to be answered.
+/// both peers. Where the connector gives none another attempt may follow, while the request has
+/// made less than `most`; else the client is to be answered.
 pub(crate) fn connect<SV: ProxyHttp, K: Connector>(
     app: &SV,
     connector: &mut K,
@@ -169,8 +169,8 @@ pub(crate) fn connect<SV: ProxyHttp, K: Connector>(
     }
 }
 
-/// Tells the application of a link that was just handed out, behind which the head is made. Where it
-/// fails, the link is to go back, not kept, and the client is owed the answer to its error.
+/// Tells the application of a link that was just handed out, behind which the head is made. Where
+/// it fails, the link is to go back, not kept, and the client is owed the answer to its error.
 fn tell<SV: ProxyHttp, L: ByteLink>(
     app: &SV,
     calls: &mut Calls<SV::Modules, SV::Kept, SV::CTX>,
@@ -226,9 +226,9 @@ fn tell<SV: ProxyHttp, L: ByteLink>(
     }
 }
 
-/// An attempt to which the connector gave no link, with that fault: the application treats its error,
-/// and it is recorded with that. Another attempt follows where one may; else the client is to be
-/// answered. Room for the record was made before.
+/// An attempt to which the connector gave no link, with that fault: the application treats its
+/// error, and it is recorded with that. Another attempt follows where one may; else the client is
+/// to be answered. Room for the record was made before.
 fn refused_link<SV: ProxyHttp, L: ByteLink>(
     app: &SV,
     most: usize,
@@ -289,8 +289,8 @@ fn refused_link<SV: ProxyHttp, L: ByteLink>(
     }
 }
 
-/// What follows an attempt that was given no link, for that error: another attempt, where one may; or
-/// the answer to its client.
+/// What follows an attempt that was given no link, for that error: another attempt, where one may;
+/// or the answer to its client.
 fn go_on<M: HttpModule + Drop, K: Drop, L, C: Drop>(
     most: usize,
     calls: &mut Calls<M, K, C>,

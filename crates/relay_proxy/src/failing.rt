@@ -1,5 +1,5 @@
-//! An attempt that failed: the application treats its error, and then answers the client for what it
-//! made of it (RFC 9110, sections 9.2.2 and 15).
+//! An attempt that failed: the application treats its error, and then answers the client for what
+//! it made of it (RFC 9110, sections 9.2.2 and 15).
 ghost use Rattle.std.specs.Prelude.{◌≡◌, ◌⊎◌, ◌≤◌, [], ◌∷◌, ℕ, None, Some, true};
 ghost use Rattle.relay_attempt.specs.Passed.{Passed};
 ghost use Rattle.relay_proxy.specs.Bound.{CountsTreat, LeavesLink};
@@ -130,8 +130,8 @@ fn treat_broken<SV: ProxyHttp, L: ByteLink>(
     }
 }
 
-/// Has the application answer the error of an attempt as it was treated. Its link is to go back, and
-/// the client is owed what was queued for it; where nothing waits, the request ends.
+/// Has the application answer the error of an attempt as it was treated. Its link is to go back,
+/// and the client is owed what was queued for it; where nothing waits, the request ends.
 fn answer_broken<SV: ProxyHttp, L: ByteLink>(
     app: &SV,
     calls: &mut Calls<SV::Modules, SV::Kept, SV::CTX>,

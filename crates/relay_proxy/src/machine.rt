@@ -65,8 +65,8 @@ pub(crate) enum Phase<L, C> {
     /// names a peer; then a link to it is wanted for the session that begins behind the head. These
     /// attempts were given none, and another may follow.
     Connect(C, Box<HttpSession>, AttemptList),
-    /// The last of these attempts was given no link, and no other follows. That is its error, as the
-    /// application treated it, which is to be answered.
+    /// The last of these attempts was given no link, and no other follows. That is its error, as
+    /// the application treated it, which is to be answered.
     Unlinked(C, Box<HttpSession>, AttemptList, Error),
     /// A link was given, of which nothing was asked yet, and the head is to be filtered and sent.
     Prepare(C, Box<HttpSession>, L, Lease),

@@ -1,5 +1,5 @@
-//! The hooks up to the peer that an attempt is to reach: one is called a turn, until that is named, or
-//! they answer the request or stop it (RFC 9110, section 3.7).
+//! The hooks up to the peer that an attempt is to reach: one is called a turn, until that is named,
+//! or they answer the request or stop it (RFC 9110, section 3.7).
 ghost use Rattle.std.specs.Prelude.{◌≡◌, ◌⊎◌, ◌+◌, ◌≤◌, ◌<◌, [], ℕ, List, None, Some, true, false};
 ghost use Rattle.std.specs.Global.{Box};
 ghost use Rattle.relay_links.specs.Link.{LinkState};
@@ -140,8 +140,8 @@ fn open<SV: ProxyHttp, L: ByteLink>(
     }
 }
 
-/// Has the application answer the error with which a hook stopped the request: the client is owed what
-/// it queued, and the request ends where that is nothing.
+/// Has the application answer the error with which a hook stopped the request: the client is owed
+/// what it queued, and the request ends where that is nothing.
 fn answer<SV: ProxyHttp, L: ByteLink>(
     app: &SV,
     calls: &mut Calls<SV::Modules, SV::Kept, SV::CTX>,

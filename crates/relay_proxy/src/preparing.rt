@@ -1,6 +1,6 @@
 //! The head of an attempt: it is filtered by the application and made as it is sent, over a link of
-//! which nothing was asked yet; and the attempt's exchange begins with it (RFC 9110, section 7.6; RFC
-//! 9112, section 3.2).
+//! which nothing was asked yet; and the attempt's exchange begins with it (RFC 9110, section 7.6;
+//! RFC 9112, section 3.2).
 ghost use Rattle.std.specs.Prelude.{◌≡◌, ◌⊎◌, ◌≤◌, [], ◌∷◌, ℕ, false, None, Some, IsSome, IfErr, IfOk};
 ghost use Rattle.std.specs.Global.{Box};
 ghost use Rattle.relay_attempt.specs.Head.{link_of};
@@ -33,8 +33,9 @@ use relay_session::HttpSession;
 use relay_tasks::{Error, Fail, RequestHeader, Result};
 use std::alloc::Global;
 
-/// Makes the head that is sent: ready for the application's filter, filtered, and settled; and begins
-/// the exchange with it. A refusal on this way is the error of the attempt, whose link nobody asked.
+/// Makes the head that is sent: ready for the application's filter, filtered, and settled; and
+/// begins the exchange with it. A refusal on this way is the error of the attempt, whose link
+/// nobody asked.
 pub(crate) fn prepare<SV: ProxyHttp, L: ByteLink>(
     alloc: Global,
     app: &SV,

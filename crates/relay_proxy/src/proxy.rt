@@ -91,8 +91,8 @@ impl<SV: ProxyHttp, K: Connector> RequestMachine<SV, K> {
         self.machine.phase.is_over()
     }
 
-    /// A turn of a request that has ended, and all of whose hooks were called, does no work. The sum
-    /// changes no number: it says, for the proof of `step`, that none is past its last value.
+    /// A turn of a request that has ended, and all of whose hooks were called, does no work. The
+    /// sum changes no number: it says, for the proof of `step`, that none is past its last value.
     fn rest(&mut self) -> RunStep
         ensures same { self.new ≡ self.old }
         ensures adds { self.new.machine.work ≡ added_work self.old.machine.work Work.NONE }
@@ -200,9 +200,9 @@ impl<SV: ProxyHttp, K: Connector, P: Purger> HttpProxy<SV, K, P> {
     /// Takes one turn of a request: one call of the link that it waits for, one verdict on a head,
     /// one call of a hook, one of the connector with that of `connected_to_upstream` behind the
     /// link that it gave, or of `fail_to_connect` where it gave none, or one branch of the duplex.
-    /// In the duplex the schedule picks the branch; where it names none or one that cannot be taken,
-    /// the first that can is taken. A branch whose link is silent passes the turn on to the next,
-    /// going round; where all are silent the answer is `Waited(Silent)`.
+    /// In the duplex the schedule picks the branch; where it names none or one that cannot be
+    /// taken, the first that can is taken. A branch whose link is silent passes the turn on to the
+    /// next, going round; where all are silent the answer is `Waited(Silent)`.
     ///
     /// Once a request that was served has ended, the hooks of its end are called, one a turn, and
     /// the answer is `Ended` behind the last of them.

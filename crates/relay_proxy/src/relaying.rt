@@ -241,8 +241,8 @@ fn leave<L: ByteLink, C: Drop>(
     }
 }
 
-/// The same of an exchange that failed with that error. Where there is no memory for the session, the
-/// request ends.
+/// The same of an exchange that failed with that error. Where there is no memory for the session,
+/// the request ends.
 fn break_off<L: ByteLink, C: Drop>(
     alloc: Global,
     context: C,

@@ -32,8 +32,8 @@ use std::alloc::Global;
 use std::mem;
 
 /// One turn: one call of one link, of the connector or of a hook, one verdict on a head, or one
-/// branch of the duplex. A request makes `most` attempts at most. A phase that relays is turned where it stands,
-/// since it has the most turns.
+/// branch of the duplex. A request makes `most` attempts at most. A phase that relays is turned
+/// where it stands, since it has the most turns.
 pub(crate) fn take_turn<SV: ProxyHttp, K: Connector, D: ByteLink, U: Drop, H: Schedule>(
     alloc: Global,
     hooks: &SV,

@@ -1,5 +1,5 @@
-//! A request to whose last attempt the connector gave no link: the application answers the client for
-//! its error (RFC 9110, section 15.6.3).
+//! A request to whose last attempt the connector gave no link: the application answers the client
+//! for its error (RFC 9110, section 15.6.3).
 ghost use Rattle.std.specs.Prelude.{◌≡◌, ◌⊎◌, []};
 ghost use Rattle.relay_attempt.specs.Passed.{Passed};
 ghost use Rattle.relay_proxy.specs.Bound.{CountsCall};

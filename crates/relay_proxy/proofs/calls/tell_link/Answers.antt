@@ -1,4 +1,5 @@
--- The application is told with the session that has its client in it, which is then taken out again.
+-- The application is told with the session that has its client in it, which is then taken out
+-- again.
 use Rattle.std.proofs.Common.{sym}
 use Rattle.relay_modules.specs.Module.{ModuleCall}
 use Rattle.relay_trying.proofs.WithinLemmas.{TellsConnected-within}

@@ -1,4 +1,5 @@
--- The error was treated and is answered, and the client is owed what was queued; or memory was wanted.
+-- The error was treated and is answered, and the client is owed what was queued; or memory was
+-- wanted.
 use Rattle.std.proofs.Common.{List, false, [], ◌∷◌, ap, refl, subst, sym}
 use Rattle.relay_tasks.specs.Hooks.{same_hook}
 use Rattle.relay_tasks.specs.declared.hook.Hook.{Hook}

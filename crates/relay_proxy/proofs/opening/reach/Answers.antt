@@ -1,5 +1,5 @@
--- An error is answered, or the hook that comes next is called; where neither is due, the connector is
--- asked.
+-- An error is answered, or the hook that comes next is called; where neither is due, the connector
+-- is asked.
 use Rattle.std.proofs.Common.{[], List, ap, refl, sym, subst}
 use Rattle.relay_proxy.specs.Calls.{log_of}
 use Rattle.relay_proxy.specs.Passed.{Start}
