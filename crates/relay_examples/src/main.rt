@@ -1,13 +1,15 @@
-//! Uses of the library, by the words: `memory`, `context` and `gateway` relay requests over links in
-//! memory by an application each, and `serve PORT PEER` serves a port for a peer.
+//! Uses of the library, by the words: `memory`, `context`, `gateway` and `failover` relay requests
+//! over links in memory by an application each, and `serve PORT PEER` serves a port for a peer.
 #![tactic(auto)]
 
 mod context;
+mod failover;
 mod gateway;
 mod memory;
 mod serving;
 
 use crate::context::{ASKS_FOR_NEW, Versions};
+use crate::failover::Failover;
 use crate::gateway::{ASKS, Gateway};
 use crate::memory::{REQUEST, relay_each};
 use crate::serving::serve_port;
@@ -23,8 +25,8 @@ use std::rt::Env;
 use std::sync::Wait;
 use std::{env, io};
 
-/// How the proxy of each use is set up: one attempt for a request.
-const CONF: ServerConf = ServerConf { max_retries: 1 };
+/// How the proxy of each use is set up: two attempts for a request at most.
+const CONF: ServerConf = ServerConf { max_retries: 2 };
 
 /// The application that decides nothing: what each hook does by default, and one peer.
 fn application() -> Defaults {
@@ -70,9 +72,16 @@ fn run<R: Env + Print + Net + Wait + AllocGlobal + Clone + Drop>(rt: &R) -> io::
 /// Relays the requests of a use in memory by its application.
 fn show<R: Print>(rt: &R, alloc: Global, word: &str) -> io::Result<()> {
     match word {
-        "memory" => relay_each(rt, alloc, application(), &[REQUEST]),
-        "context" => relay_each(rt, alloc, App::new(Versions), &[REQUEST, ASKS_FOR_NEW]),
-        "gateway" => relay_each(rt, alloc, App::new(Gateway), &[REQUEST, ASKS[0], ASKS[1]]),
+        "memory" => relay_each(rt, alloc, application(), 0, &[REQUEST]),
+        "context" => relay_each(rt, alloc, App::new(Versions), 0, &[REQUEST, ASKS_FOR_NEW]),
+        "gateway" => relay_each(
+            rt,
+            alloc,
+            App::new(Gateway),
+            0,
+            &[REQUEST, ASKS[0], ASKS[1]],
+        ),
+        "failover" => relay_each(rt, alloc, App::new(Failover), 1, &[REQUEST]),
         _ => Err(io::Error::from(ErrorKind::InvalidInput)),
     }
 }

@@ -9,7 +9,7 @@ use relay_links::{
     ShutdownAt,
 };
 use relay_proxy::{HttpProxy, Outside, RunRecord};
-use relay_tasks::Purged;
+use relay_tasks::{Purged, RetryType};
 use std::alloc::{AllocError, Global};
 use std::{io, str};
 
@@ -22,16 +22,17 @@ const RESPONSE: &str = "HTTP/1.1 200 OK\r\nContent-Length: 2\r\n\r\nhi";
 /// The most turns that a request may take.
 const TURNS: u64 = 1_000;
 
-/// Relays requests, each of a client of its own, to peers that answer all alike. Prints the outcome
-/// of each, the peers of its attempts and what its client was written, and then what each peer was
-/// sent.
+/// Relays requests, each of a client of its own, to peers that answer all alike, where the first
+/// `refused` links that are asked for are not given. Prints the outcome of each, the peers of its
+/// attempts and what its client was written, and then what each peer was sent.
 pub fn relay_each<R: Print, SV: ProxyHttp + Drop>(
     rt: &R,
     alloc: Global,
     application: SV,
+    refused: usize,
     requests: &[&'static str],
 ) -> io::Result<()> {
-    let connector = connector_to(alloc, requests.len())?;
+    let connector = connector_to(alloc, refused, requests.len())?;
     let purger = MemoryPurger::new(alloc, Purged::NotFound);
     let mut proxy = HttpProxy::new(alloc, application, CONF, connector, purger);
     for request in requests {
@@ -69,17 +70,30 @@ fn link_of(alloc: Global, text: &'static str) -> Result<ScriptLink, AllocError> 
     Ok(ScriptLink::new(alloc, items, Vec::new(alloc)))
 }
 
-/// A connector that hands out so many links, each to a peer that answers.
-fn connector_to(alloc: Global, count: usize) -> Result<ScriptConnector, AllocError> {
+/// A connector that refuses so many links, each with a fault that lets another attempt follow, and
+/// then hands out so many, each to a peer that answers.
+fn connector_to(
+    alloc: Global,
+    refused: usize,
+    count: usize,
+) -> Result<ScriptConnector, AllocError> {
     let mut peers = Vec::new(alloc);
+    for _ in 0..refused {
+        peers.push(peer_script(alloc, Some(RetryType::Decided(true)))?)?;
+    }
     for _ in 0..count {
-        peers.push(PeerScript {
-            name: Bytes::from_static(b"a"),
-            link: link_of(alloc, RESPONSE)?,
-            connect: None,
-        })?;
+        peers.push(peer_script(alloc, None)?)?;
     }
     ScriptConnector::new(alloc, peers).ok().ok_or(AllocError)
+}
+
+/// A peer that answers; or one to which a link is refused, with a fault of that mark.
+fn peer_script(alloc: Global, connect: Option<RetryType>) -> Result<PeerScript, AllocError> {
+    Ok(PeerScript {
+        name: Bytes::from_static(b"a"),
+        link: link_of(alloc, RESPONSE)?,
+        connect,
+    })
 }
 
 /// The bytes as a text.
