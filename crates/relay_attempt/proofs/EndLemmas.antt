@@ -752,7 +752,7 @@ module _ {L : Type 0} (state : L → LinkState) (start_at : L → LinkStart) whe
       (λ r left e. ClientRefuses s r link x.exchange.down.told left e)
       (λ r e. ClientBlames s r link e ⊎ CannotEnd s r x.exchange.down.told e)
       (Blames state start_at x.exchange.up s) (down_state x.exchange.down) p q e
-      → FailsWith state start_at s (passed_by p q) link x e
+      → FailsWith state start_at s (passed_by p q) link ahead x e
   fails_with s p q link ahead x f e tells reason =
       let down = x.exchange.down in
       let fails = fails_here state start_at s p q link ahead down x.exchange.up x.exchange.duplex f
@@ -762,4 +762,7 @@ module _ {L : Type 0} (state : L → LinkState) (start_at : L → LinkStart) whe
         answers = answers_own s p link ahead down.session f.down.passed.client;
         holds = fails.holds;
         broken = f.down.passed.client.broken;
+        down = p;
+        client = f.down.passed.client;
+        came = refl;
       }

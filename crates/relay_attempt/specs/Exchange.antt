@@ -21,7 +21,7 @@ use Rattle.relay_core.specs.Uses as uses
 use Rattle.relay_core.specs.declared.duplex.Duplex.{Duplex}
 use Rattle.relay_core.specs.declared.step.Step.{Step}
 use Rattle.relay_core.specs.declared.step.Step.TheVariants as step
-use Rattle.relay_sides.specs.Client.{IsSide, FailsWrite}
+use Rattle.relay_sides.specs.Client.{IsClient, IsSide, FailsWrite}
 use Rattle.relay_sides.specs.Client as client
 use Rattle.relay_peer.specs.Body.{body_of}
 use Rattle.relay_peer.specs.Faults.{TellsSince}
@@ -126,16 +126,19 @@ module _ {L : Type 0} (state : L → LinkState) (start_at : L → LinkStart) whe
     pub unkept : may_keep x ≡ false
 
   -- why it failed with that error, and the session that this leaves: it answers the request, with
-  -- the tasks that were queued, of whose text so much was written; and where it keeps the fault of
-  -- a write, the client's link has answered that since the request began
-  pub record FailsWith (s : Origin) (p : Passed) (link : LinkState) (x : H1Exchange L) (e : Error)
-      : Type 0 where
+  -- the tasks that were queued, of whose text so much was written; it has read so far; and where it
+  -- keeps the fault of a write, the client's link has answered that since the request began
+  pub record FailsWith (s : Origin) (p : Passed) (link : LinkState) (ahead : List ℕ)
+      (x : H1Exchange L) (e : Error) : Type 0 where
     pub why : FailsFor s p link (state (link_of x)) (start_at (link_of x)) e
     pub answers : x.exchange.down.session.writing.request ≡ request_of s.head
     pub holds : Holds x.exchange.down.session.writing (queued_in (order_of why)) p.written
     pub broken : (fault : Fault)
         → x.exchange.down.session.writing.output ≡ outgoing.Broken fault
         → FailsWrite s link fault
+    pub down : DownPast
+    pub client : IsClient s down link ahead x.exchange.down.session
+    pub came : down.came ≡ p.came
 
   -- what a turn made of it, by its answer: it goes on; both directions were relayed, or the
   -- response was over early; or it failed, for a cause
@@ -144,7 +147,7 @@ module _ {L : Type 0} (state : L → LinkState) (start_at : L → LinkStart) whe
   ComesTo s p link ahead x (step.Waited pause) = IsUnderWay s p link ahead x
   ComesTo s p link ahead x step.Finished = IsFinished s p ahead x ⊎ IsOverEarly s p ahead x
   ComesTo s p link ahead x (step.Failed (fail.Error e)) =
-      FailsWith s p link x e
+      FailsWith s p link ahead x e
   ComesTo s p link ahead x (step.Failed fail.OutOfMemory) =
       IsInOrder s p (state (link_of x)).ended
 

@@ -1,6 +1,6 @@
 -- How far the request of a session has come, and what each call says of all that its client gave
 -- since the session began (RFC 9112, sections 2, 3, 6 and 9).
-use Rattle.std.specs.Prelude.{◌≡◌, ℕ, ◌<◌, ◌≤◌, Bool, true, false, ◌⊎◌, List, [], ◌∷◌, ◌++◌, length, drop, min, Option, Some, None, ⊤}
+use Rattle.std.specs.Prelude.{◌≡◌, ℕ, ◌<◌, ◌≤◌, ◌==◌, Bool, true, false, not, ◌&&◌, ◌||◌, ◌⊎◌, List, [], ◌∷◌, ◌++◌, length, drop, min, Option, Some, None, ⊤}
 use Rattle.relay_tasks.specs.declared.context.Context.{Context}
 use Rattle.relay_tasks.specs.declared.error.Error.{Error}
 use Rattle.relay_tasks.specs.declared.error.ErrorSource.TheVariants.{Downstream}
@@ -48,6 +48,13 @@ is_body_empty (reading.Body request) = ends_with_head request.framing
 abbrev pub received : Reading → ℕ
 received reading.Head = 0
 received (reading.Body request) = request.received
+
+-- the request stands as it did behind its head: no byte of the body was given out, and the body has
+-- ended only where the head says so
+abbrev pub is_unread : Reading → Bool
+is_unread reading.Head = false
+is_unread (reading.Body request) =
+    (request.received == 0) && (not (is_done request.body) || ends_with_head request.framing)
 
 -- a request whose head was just read
 abbrev pub begun : RequestHead → Framing → BegunRequest

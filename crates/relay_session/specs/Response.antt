@@ -1,6 +1,6 @@
 -- The response of a session as its clauses see it: its tasks so far, what the link took of their
 -- text, and what waits.
-use Rattle.std.specs.Prelude.{◌≡◌, ℕ, ◌+◌, ◌<◌, Bool, true, false, List, [], ◌∷◌, ◌++◌, length, min, Option, Some, None, Result, Ok, Err}
+use Rattle.std.specs.Prelude.{◌≡◌, ℕ, ◌+◌, ◌<◌, ◌==◌, Bool, true, false, not, ◌&&◌, List, [], ◌∷◌, ◌++◌, length, min, Option, Some, None, Result, Ok, Err}
 use Rattle.relay_tasks.specs.declared.error.Error.{Error}
 use Rattle.relay_tasks.specs.declared.error.ErrorSource.TheVariants.{Downstream}
 use Rattle.relay_tasks.specs.declared.error.Fail.{Fail}
@@ -39,6 +39,16 @@ is_over place.Done = true
 abbrev pub pending : Outgoing → List ℕ
 pending (outgoing.Open queue) = queue
 pending (outgoing.Broken fault) = []
+
+-- nothing waits, and no write failed
+abbrev pub is_written_out : Outgoing → Bool
+is_written_out (outgoing.Open queue) = length queue == 0
+is_written_out (outgoing.Broken fault) = false
+
+-- the response stands as it did before its first task: no final head was queued, nothing waits, and
+-- no write failed. Informational heads may have been written
+abbrev pub is_unqueued : Writing → Bool
+is_unqueued response = not (has_head response.place) && is_written_out response.output
 
 -- ---- the tasks so far
 

@@ -1,6 +1,6 @@
 //! How the request of a client is read: its head, and its body piece by piece (RFC 9112, sections
 //! 2, 3, 6 and 7).
-ghost use Rattle.std.specs.Prelude.{◌≡◌, ◌↔◌, ℕ, List, [], ◌&&◌, ◌++◌, true, false, length, drop, min, None, Some, IsSome, IsTrue, IfOk, IsOkUnless};
+ghost use Rattle.std.specs.Prelude.{◌≡◌, ◌↔◌, ℕ, List, [], ◌&&◌, ◌||◌, ◌==◌, not, ◌++◌, true, false, length, drop, min, None, Some, IsSome, IsTrue, IfOk, IsOkUnless};
 ghost use Rattle.std.specs.Borrow.{sem};
 ghost use Rattle.relay_tasks.specs.Head.{RequestHead};
 ghost use Rattle.relay_links.specs.Count.{last_count};
@@ -11,7 +11,7 @@ ghost use Rattle.relay_h1.specs.Verdict.{HasRequest};
 ghost use Rattle.relay_session.specs.Front.{Watches};
 ghost use Rattle.relay_session.specs.HeadLent.{LendsHead};
 ghost use Rattle.relay_session.specs.Summary.{without_body_fields};
-ghost use Rattle.relay_session.specs.Reading.{head_of, with_head, is_body_done, is_body_empty, received, begun, RequestSoFar, IsInBody, IsWhole, IsItem, ReadsOn, ReadsRest, ReadsLink, EndsBy};
+ghost use Rattle.relay_session.specs.Reading.{head_of, with_head, is_body_done, is_body_empty, is_unread, received, begun, RequestSoFar, IsInBody, IsWhole, IsItem, ReadsOn, ReadsRest, ReadsLink, EndsBy};
 
 use crate::front::{Front, ends_with_head};
 use bytes::Bytes;
@@ -213,6 +213,20 @@ impl Reading {
         match self {
             Reading::Head => false,
             Reading::Body(request) => ends_with_head(request.framing),
+        }
+    }
+
+    /// Whether the request stands as it did behind its head: no byte of the body was given out, and
+    /// the body has ended only where the head says so.
+    pub(crate) fn is_as_begun(&self) -> bool
+        ensures { result ≡ is_unread self.now }
+    {
+        match self {
+            Reading::Head => false,
+            Reading::Body(request) => {
+                request.received == 0
+                    && (!request.body.is_done() || ends_with_head(request.framing))
+            }
         }
     }
 

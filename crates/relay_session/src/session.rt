@@ -12,7 +12,7 @@ ghost use Rattle.relay_session.specs.Front.{Watches, ends_with_head};
 ghost use Rattle.relay_session.specs.declared.writing.Outgoing.TheVariants.{Open};
 ghost use Rattle.relay_session.specs.HeadLent.{LendsSessionHead};
 ghost use Rattle.relay_session.specs.Asked.{request_of, unread};
-ghost use Rattle.relay_session.specs.Session.{AnswersRead, AnswersTo, lets_ask_again};
+ghost use Rattle.relay_session.specs.Session.{AnswersRead, AnswersTo, is_as_begun, lets_ask_again};
 ghost use Rattle.relay_session.specs.Reading.{head_of, with_head, is_body_done, is_body_empty, received, RequestSoFar, IsWhole, IsItem, ReadsOn, ReadsRest, ReadsLink, EndsBy};
 ghost use Rattle.relay_session.specs.Summary.{without_body_fields, request_summary};
 ghost use Rattle.relay_session.specs.TaskWire.{refusal};
@@ -258,6 +258,16 @@ impl HttpSession {
         ensures { result ≡ lets_ask_again self.now }
     {
         self.reading.is_body_done() && self.writing.lets_ask()
+    }
+
+    /// Whether the session stands as it did behind its head, so that another attempt at the request
+    /// may begin with it: no byte of the body was given out, and the body has ended only where the
+    /// head says so; no final head was queued, nothing waits, and no write failed. Informational
+    /// heads may have been written (RFC 9110, sections 9.2.2 and 15.2).
+    pub fn is_as_begun(&self) -> bool
+        ensures { result ≡ is_as_begun self.now }
+    {
+        self.reading.is_as_begun() && self.writing.is_as_begun()
     }
 
     /// How many bytes of the body were given out; the count stands still at its last value.

@@ -1,6 +1,6 @@
 //! How the response to a client is written: its heads, its body, its end (RFC 9112, sections 4, 6
 //! and 7). What is written waits in a queue until the link takes it.
-ghost use Rattle.std.specs.Prelude.{◌≡◌, ℕ, List, [], ◌∷◌, ◌++◌, take, length, ◌==◌, ◌≤◌, not, true, false, Some, Err, IfOk, IfErr, OnOk, OnErr, IsOkUnless};
+ghost use Rattle.std.specs.Prelude.{◌≡◌, ℕ, ◌&&◌, List, [], ◌∷◌, ◌++◌, take, length, ◌==◌, ◌≤◌, not, true, false, Some, Err, IfOk, IfErr, OnOk, OnErr, IsOkUnless};
 ghost use Rattle.relay_tasks.specs.declared.task.HttpTask.{HttpTask};
 ghost use Rattle.relay_tasks.specs.Head.{IsStatus};
 ghost use Rattle.relay_links.specs.Count.{last_count};
@@ -9,7 +9,7 @@ ghost use Rattle.relay_session.specs.Asked.{lets_ask};
 ghost use Rattle.relay_session.specs.TaskWire.{bytes_of, head_at, head_refusal_at, piece_at, piece_refusal_at, refusal};
 ghost use Rattle.relay_session.specs.TaskSteps.{HeadGoesOnAt, PieceGoesOnAt};
 ghost use Rattle.relay_session.specs.Generated.{answer_tasks, body_answer_tasks, AnswersText, IsKeptFault, IsFaultOrMemory};
-ghost use Rattle.relay_session.specs.Response.{Holds, IsQueued, AreQueued, Takes, passed, IsFailure, FailsOn, error_of, has_head, is_over, pending, MayWrite, WritesPending, LeavesOpen, IsOpen, StopsAt, FailsWithin, FailsBatch};
+ghost use Rattle.relay_session.specs.Response.{Holds, IsQueued, AreQueued, Takes, passed, IsFailure, FailsOn, error_of, has_head, is_over, is_unqueued, is_written_out, pending, MayWrite, WritesPending, LeavesOpen, IsOpen, StopsAt, FailsWithin, FailsBatch};
 
 use crate::batch::batch_refusal;
 use crate::front::Front;
@@ -121,6 +121,24 @@ impl Writing {
         match self.place {
             Place::NoHead => false,
             Place::Body(_) | Place::Done => true,
+        }
+    }
+
+    /// Whether the response stands as it did before its first task: no final head was queued,
+    /// nothing waits, and no write failed. Informational heads may have been written.
+    pub fn is_as_begun(&self) -> bool
+        ensures { result ≡ is_unqueued self.now }
+    {
+        !self.response_written() && self.is_written_out()
+    }
+
+    /// Whether nothing waits, and no write failed.
+    fn is_written_out(&self) -> bool
+        ensures { result ≡ is_written_out self.now.output }
+    {
+        match &self.output {
+            Outgoing::Open(queue) => queue.is_empty(),
+            Outgoing::Broken(_) => false,
         }
     }
 
