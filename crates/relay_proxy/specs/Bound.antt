@@ -11,7 +11,7 @@ use Rattle.relay_proxy.specs.Tries.{tries_in}
 use Rattle.relay_proxy.specs.declared.machine.Attempt.{Attempt}
 use Rattle.relay_proxy.specs.declared.machine.Lease.{Lease}
 use Rattle.relay_proxy.specs.declared.machine.Phase.{Phase}
-use Rattle.relay_proxy.specs.declared.machine.Phase.TheVariants.{ReadHead, Connect, Unlinked, Prepare, Relay, Broken, Fail, Close, Answer, Ended}
+use Rattle.relay_proxy.specs.declared.machine.Phase.TheVariants.{ReadHead, Connect, Unlinked, Prepare, Relay, Broken, Again, Fail, Close, Answer, Ended}
 use Rattle.relay_proxy.specs.declared.record.AttemptRecord.{AttemptRecord}
 use Rattle.relay_proxy.specs.declared.record.RunRecord.{RunRecord}
 use Rattle.relay_proxy.specs.declared.work.Work.{Work}
@@ -47,14 +47,18 @@ module _ {L : Type 0} (state : L → LinkState) (start_at : L → LinkStart) whe
   OwnGave (r ∷ []) got = LinkGave r.link got
   OwnGave (r ∷ q ∷ own) got = ⊥
 
-  -- what a request counted is bounded: each turn did some work or called a hook, the tasks are no
-  -- more than twice the bytes that its links gave, and the ends are few
-  pub record IsBounded (s : Start) (client : LinkState) (own : List (Returned L))
-      (history : RunRecord) : Type 0 where
+  -- what a request counted is bounded: each turn did some work or called a hook; and but for so
+  -- many tasks and ends of attempts before, the tasks are no more than twice the bytes that its
+  -- links gave, and the ends are few
+  pub record IsBounded (s : Start) (client : LinkState) (earlier_tasks earlier_ends : ℕ)
+      (own : List (Returned L)) (history : RunRecord) : Type 0 where
     pub worked : history.turns_taken
         ≤ history.items_used + history.tasks_moved + history.sides_ended + length history.log
-    pub within : IsWithin history.tasks_moved history.sides_ended
-        (most_sides (length history.attempts)) s client (OwnGave own)
+    pub tasks : ℕ
+    pub ends : ℕ
+    pub moved : history.tasks_moved ≤ earlier_tasks + tasks
+    pub ended : history.sides_ended ≤ earlier_ends + ends
+    pub within : IsWithin tasks ends (most_sides (length history.attempts)) s client (OwnGave own)
 
 module _ {L C : Type 0} (state : L → LinkState) (start_at : L → LinkStart) where
   -- an attempt whose exchange counted so much: the head that is sent is one more task, and the head
@@ -85,6 +89,7 @@ module _ {L C : Type 0} (state : L → LinkState) (start_at : L → LinkStart) w
   PhaseCounts tasks ends s client ahead own (Broken context session link lease keep error) =
       IsWithin tasks ends (sides_before (1 + length (tries_in lease))) s client
       (LinkGave state start_at link)
+  PhaseCounts tasks ends s client ahead own (Again context session link lease keep error) = ⊥
   PhaseCounts tasks ends s client ahead own (Fail link lease keep session error) = ⊥
   PhaseCounts tasks ends s client ahead own (Close link lease keep outcome) = ⊥
   PhaseCounts tasks ends s client ahead own (Answer session owed attempts) =
@@ -107,6 +112,9 @@ module _ {L C : Type 0} (state : L → LinkState) (start_at : L → LinkStart) w
       PhaseCounts tasks ends s client ahead own (Relay a)
   TurnedCounts tasks ends s client ahead own (Broken context session link lease keep error) =
       PhaseCounts tasks ends s client ahead own (Broken context session link lease keep error)
+  TurnedCounts tasks ends s client ahead own (Again context session link lease keep error) =
+      IsWithin tasks ends (sides_before (1 + length (tries_in lease))) s client
+      (LinkGave state start_at link)
   TurnedCounts tasks ends s client ahead own (Fail link lease keep session error) =
       IsWithin tasks ends (sides_before (1 + length (tries_in lease))) s client
       (LinkGave state start_at link)
@@ -127,6 +135,7 @@ CountsHead (Unlinked context session attempts error) work = ⊥
 CountsHead (Prepare context session link lease) work = ⊥
 CountsHead (Relay a) work = ⊥
 CountsHead (Broken context session link lease keep error) work = ⊥
+CountsHead (Again context session link lease keep error) work = ⊥
 CountsHead (Fail link lease keep session error) work = ⊥
 CountsHead (Close link lease keep outcome) work = ⊥
 CountsHead (Answer session owed attempts) work = (work.moved ≡ 0) × (work.ended ≡ 1)
@@ -142,6 +151,7 @@ CountsCall before (Unlinked context session attempts error) work = ⊥
 CountsCall before (Prepare context session link lease) work = ⊥
 CountsCall before (Relay a) work = ⊥
 CountsCall before (Broken context session link lease keep error) work = ⊥
+CountsCall before (Again context session link lease keep error) work = ⊥
 CountsCall before (Fail link lease keep session error) work = ⊥
 CountsCall before (Close link lease keep outcome) work = ⊥
 CountsCall before (Answer session owed attempts) work =
@@ -162,6 +172,7 @@ CountsLink before (Prepare context session link lease) work =
 CountsLink before (Relay a) work = ⊥
 CountsLink before (Broken context session link lease keep error) work =
     (work.moved ≡ 0) × (work.ended ≡ 1) × (tries_in lease ≡ before)
+CountsLink before (Again context session link lease keep error) work = ⊥
 CountsLink before (Fail link lease keep session error) work = ⊥
 CountsLink before (Close link lease keep outcome) work =
     (work.moved ≡ 0) × (work.ended ≡ 1) × (tries_in lease ≡ before)
@@ -181,6 +192,7 @@ CountsSend before (Relay a) work =
     (work.moved ≡ 1) × (work.ended ≡ 0) × (tries_in a.value.lease ≡ before)
 CountsSend before (Broken context session link lease keep error) work =
     (work.moved ≡ 0) × (work.ended ≡ 1) × (tries_in lease ≡ before)
+CountsSend before (Again context session link lease keep error) work = ⊥
 CountsSend before (Fail link lease keep session error) work = ⊥
 CountsSend before (Close link lease keep outcome) work =
     (work.moved ≡ 0) × (work.ended ≡ 1) × (tries_in lease ≡ before)
@@ -197,6 +209,8 @@ CountsTreat before (Prepare context session link lease) work = ⊥
 CountsTreat before (Relay a) work = ⊥
 CountsTreat before (Broken context session link lease keep error) work =
     (work.moved ≡ 0) × (work.ended ≡ 0) × (tries_in lease ≡ before)
+CountsTreat before (Again context session link lease keep error) work =
+    (work.moved ≡ 0) × (work.ended ≡ 0) × (tries_in lease ≡ before)
 CountsTreat before (Fail link lease keep session error) work =
     (work.moved ≡ 0) × (work.ended ≡ 0) × (tries_in lease ≡ before)
 CountsTreat before (Close link lease keep outcome) work =
@@ -212,6 +226,7 @@ CountsAnswer (Unlinked context session attempts error) work = ⊥
 CountsAnswer (Prepare context session link lease) work = ⊥
 CountsAnswer (Relay a) work = ⊥
 CountsAnswer (Broken context session link lease keep error) work = ⊥
+CountsAnswer (Again context session link lease keep error) work = ⊥
 CountsAnswer (Fail link lease keep session error) work = ⊥
 CountsAnswer (Close link lease keep outcome) work = ⊥
 CountsAnswer (Answer session owed attempts) work = (work.moved ≡ 0) × (work.ended ≡ 0)
@@ -225,6 +240,7 @@ LeavesLink link lease (Unlinked context session attempts error) = ⊥
 LeavesLink link lease (Prepare context session left by) = ⊥
 LeavesLink link lease (Relay a) = ⊥
 LeavesLink link lease (Broken context session left by keep error) = (left ≡ link) × (by ≡ lease)
+LeavesLink link lease (Again context session left by keep error) = (left ≡ link) × (by ≡ lease)
 LeavesLink link lease (Fail left by keep session error) = (left ≡ link) × (by ≡ lease)
 LeavesLink link lease (Close left by keep outcome) = (left ≡ link) × (by ≡ lease)
 LeavesLink link lease (Answer session owed attempts) = ⊥

@@ -1,6 +1,7 @@
 -- The calls of an application for one request: what its hooks are shown, their log, and where they
 -- stand (RFC 9110, section 3.7).
 use Rattle.std.specs.Prelude.{◌≡◌, ℕ, ◌+◌, ◌≤◌, ◌⊎◌, Bool, IsSome, IsTrue, true, false, is_some, length, List, [], ◌∷◌, ◌++◌, Option, Some, None, if◌then◌else◌}
+use Rattle.relay_tasks.specs.Error.{may_retry}
 use Rattle.relay_tasks.specs.declared.Error.{Error}
 use Rattle.relay_tasks.specs.declared.hook.Hook.{Hook}
 use Rattle.relay_tasks.specs.declared.hook.Hook.TheVariants as hook
@@ -20,7 +21,7 @@ use Rattle.relay_hooks.specs.Standing.{Standing, standing}
 use Rattle.relay_calls.specs.Log.{IsAllowed, Walk}
 use Rattle.relay_phases.specs.Order.{Accepts, Station, accepted, sent}
 use Rattle.relay_phases.specs.Order.{Station as station}
-use Rattle.relay_phases.specs.Turns.{HasCalled, QueuesNothing, Turns}
+use Rattle.relay_phases.specs.Turns.{QueuesNothing, Turns}
 use Rattle.relay_opening.specs.Opens.{TurnsTo}
 use Rattle.relay_opening.specs.Place.{end_station, next_hook, station_of}
 use Rattle.relay_opening.specs.declared.place.Called.TheVariants as called
@@ -61,7 +62,7 @@ use Rattle.relay_proxy.specs.Work.{added_work, turns_after}
 use Rattle.relay_proxy.specs.declared.machine.Attempt.{Attempt}
 use Rattle.relay_proxy.specs.declared.machine.Machine.{Machine}
 use Rattle.relay_proxy.specs.declared.machine.Phase.{Phase}
-use Rattle.relay_proxy.specs.declared.machine.Phase.TheVariants.{ReadHead, Connect, Unlinked, Prepare, Relay, Broken, Fail, Close, Answer, Ended}
+use Rattle.relay_proxy.specs.declared.machine.Phase.TheVariants.{ReadHead, Connect, Unlinked, Prepare, Relay, Broken, Again, Fail, Close, Answer, Ended}
 
 -- the log
 abbrev pub log_of : {M K X : Type 0} → Calls M K X → List LogEntry
@@ -484,16 +485,15 @@ module _ {C M K : Type 0} (allows : Standing → LogEntry → Type 0) (mark_of :
   -- log, which ends at the mark of the context that is held, and the request goes on
   pub record IsOpening (calls : Calls M K C) (context : C) (client : HttpSession)
       (tries : List AttemptRecord) : Type 0 where
-    pub first : Seen
-    pub mark : ℕ
-    pub none : first.log ≡ []
-    pub so_far : HasCalled allows first mark accepted (station_at calls.at) QueuesNothing
-        (seen_with calls client) (mark_of context)
+    pub from : Standing
+    pub walks : Walk allows from (log_of calls)
+        (standing None false (moment (seen_with calls client) (mark_of context)))
+    pub order : Accepts accepted (log_of calls) (station_at calls.at)
     pub goes : GoesOn calls.at
     pub named : TellsPeer calls.at (log_of calls)
     -- as long as hooks before the attempts are called no attempt was made
     pub untried : is_before calls.at ≡ true → tries ≡ []
-    -- none of an attempt that had a link has failed
+    -- of no attempt that had a link the error was treated but where another one followed
     pub untreated : IsUntreated (log_of calls)
     -- no final head was queued for the client
     pub unanswered : has_head client.writing.place ≡ false
@@ -509,6 +509,10 @@ module _ {C M K : Type 0} (allows : Standing → LogEntry → Type 0) (mark_of :
     pub at : Station
     pub order : Accepts accepted (log_of calls) at
     pub breaks : BreaksAt calls.at (log_of calls) error at
+    -- where its error was treated, and may be tried again as far as the log tells
+    pub again : (treated : Error) → calls.at ≡ at.Treated treated
+        → may_retry treated.retry ≡ true → has_head client.writing.place ≡ false
+        → at ≡ station.repeatable
     pub unended : IsUnended (log_of calls)
 
   -- the calls so far of a request whose last attempt was given no link: the log walks to where the
@@ -549,6 +553,9 @@ module _ {L C M K : Type 0} (allows : Standing → LogEntry → Type 0) (mark_of
   CallsSoFar calls (Relay a) = IsRelayingCalls calls a.value
   CallsSoFar calls (Broken context session link lease keep error) =
       IsBreaking allows mark_of calls context session.value error
+  CallsSoFar calls (Again context session link lease keep error) =
+      IsOpening allows mark_of calls context session.value (tries_in lease)
+      × (is_before calls.at ≡ false)
   CallsSoFar calls (Fail link lease keep session error) =
       IsOwing allows mark_of calls session.value (owing.Served error)
   CallsSoFar calls (Close link lease keep outcome) = HasCome allows mark_of calls outcome
@@ -578,6 +585,7 @@ IsUncalled (Unlinked context session attempts error) = ⊥
 IsUncalled (Prepare context session link lease) = ⊥
 IsUncalled (Relay a) = ⊥
 IsUncalled (Broken context session link lease keep error) = ⊥
+IsUncalled (Again context session link lease keep error) = ⊥
 IsUncalled (Fail link lease keep session error) = ⊥
 IsUncalled (Close link lease keep outcome) = ⊥
 IsUncalled (Answer session owed attempts) = IsUncalledFor owed
@@ -608,6 +616,7 @@ KeepsCalls a old new (Relay b) =
 KeepsCalls a old new (Broken context session link lease keep error) =
     (new ≡ old) × (context ≡ a.context)
     × (head_of session.value.reading ≡ head_of a.exchange.exchange.down.session.reading)
+KeepsCalls a old new (Again context session link lease keep error) = ⊥
 KeepsCalls a old new (Fail link lease keep session error) = ⊥
 KeepsCalls a old new (Close link lease keep outcome) =
     ((new ≡ old) × (outcome ≡ OutOfMemory)) ⊎ HasFinished a old new outcome
@@ -622,6 +631,7 @@ OwesIn (Unlinked context other attempts error) session owed = ⊥
 OwesIn (Prepare context other link lease) session owed = ⊥
 OwesIn (Relay a) session owed = ⊥
 OwesIn (Broken context other link lease keep error) session owed = ⊥
+OwesIn (Again context other link lease keep error) session owed = ⊥
 OwesIn (Fail link lease keep other error) session owed =
     (other ≡ session) × (owed ≡ owing.Served error)
 OwesIn (Close link lease keep outcome) session owed = ⊥
@@ -636,6 +646,7 @@ CameIn (Unlinked context session attempts error) came = ⊥
 CameIn (Prepare context session link lease) came = ⊥
 CameIn (Relay a) came = ⊥
 CameIn (Broken context session link lease keep error) came = ⊥
+CameIn (Again context session link lease keep error) came = ⊥
 CameIn (Fail link lease keep session error) came = ⊥
 CameIn (Close link lease keep outcome) came = outcome ≡ came
 CameIn (Answer session owed attempts) came = ⊥
@@ -670,6 +681,7 @@ BeginsCalls context session (Prepare other stays link lease) = ⊥
 BeginsCalls context session (Relay a) =
     (a.value.context ≡ context) × (a.value.exchange.exchange.down.session ≡ session)
 BeginsCalls context session (Broken other stays link lease keep error) = ⊥
+BeginsCalls context session (Again other stays link lease keep error) = ⊥
 BeginsCalls context session (Fail link lease keep stays error) = ⊥
 BeginsCalls context session (Close link lease keep outcome) = outcome ≡ OutOfMemory
 BeginsCalls context session (Answer stays owed attempts) = ⊥
@@ -685,6 +697,7 @@ BreaksOff context session (Prepare other stays link lease) = ⊥
 BreaksOff context session (Relay a) = ⊥
 BreaksOff context session (Broken other stays link lease keep error) =
     (other ≡ context) × (stays.value ≡ session)
+BreaksOff context session (Again other stays link lease keep error) = ⊥
 BreaksOff context session (Fail link lease keep stays error) = ⊥
 BreaksOff context session (Close link lease keep outcome) = outcome ≡ OutOfMemory
 BreaksOff context session (Answer stays owed attempts) = ⊥
@@ -705,6 +718,7 @@ goes_back_in (Unlinked context session attempts error) = None
 goes_back_in (Prepare context session link lease) = None
 goes_back_in (Relay a) = None
 goes_back_in (Broken context session link lease keep error) = None
+goes_back_in (Again context session link lease keep error) = None
 goes_back_in (Fail link lease keep session error) = None
 goes_back_in (Close link lease keep outcome) = None
 goes_back_in (Answer session owed attempts) = None

@@ -11,6 +11,7 @@ use Rattle.relay_attempt.specs.Passed.{Passed}
 use Rattle.relay_attempt.specs.declared.h1_exchange.H1Exchange.{H1Exchange}
 use Rattle.relay_attempt.specs.Head.{link_of}
 use Rattle.relay_proxy.specs.Sent.{Sends}
+use Rattle.relay_proxy.specs.Legs.{RepeatsOn}
 use Rattle.relay_proxy.specs.Bound.{IsWithin, OwnGave, PhaseCounts, most_sides}
 use Rattle.relay_proxy.specs.Passed.{World, Start, origin_of, asked}
 use Rattle.relay_proxy.specs.Endings.{error_of, IsEnded}
@@ -24,7 +25,7 @@ use Rattle.relay_proxy.specs.Uses.{PhaseUses, OwnUses}
 use Rattle.relay_proxy.specs.declared.finish.Ending.{Ending}
 use Rattle.relay_proxy.specs.declared.machine.Lease.{Lease}
 use Rattle.relay_proxy.specs.declared.machine.Phase.{Phase}
-use Rattle.relay_proxy.specs.declared.machine.Phase.TheVariants.{ReadHead, Connect, Unlinked, Prepare, Relay, Broken, Fail, Close, Answer, Ended}
+use Rattle.relay_proxy.specs.declared.machine.Phase.TheVariants.{ReadHead, Connect, Unlinked, Prepare, Relay, Broken, Again, Fail, Close, Answer, Ended}
 use Rattle.relay_proxy.specs.declared.machine.RunStep.{RunStep}
 use Rattle.relay_proxy.specs.declared.machine.RunStep.TheVariants as step
 use Rattle.relay_proxy.specs.declared.outcome.Outcome.{Outcome}
@@ -69,6 +70,9 @@ Settles (Prepare context session link lease) before after next =
 Settles (Relay a) before after next = (next ≡ Relay a) × (after ≡ before)
 Settles (Broken context session link lease keep error) before after next =
     (next ≡ Broken context session link lease keep error) × (after ≡ before)
+Settles (Again context session link lease keep error) before after next =
+    (attempts : List AttemptRecord) × (next ≡ Connect context session attempts)
+    × HandsBack link lease keep (outcome.Served (Some error) false) before after attempts
 Settles (Fail link lease keep session error) before after next =
     (attempts : List AttemptRecord) × (next ≡ Answer session (Served error) attempts)
     × HandsBack link lease keep (outcome.Served (Some error) false) before after attempts
@@ -116,6 +120,8 @@ Finishes (Relay a) before after ending =
     GivesLinkUp (link_of a.value.exchange) a.value.lease before after ending
 Finishes (Broken context session link lease keep error) before after ending =
     GivesLinkUp link lease before after ending
+Finishes (Again context session link lease keep error) before after ending =
+    GivesLinkUp link lease before after ending
 Finishes (Fail link lease keep session error) before after ending =
     GivesFailedUp link lease keep error before after ending
 Finishes (Answer session owed attempts) before after ending =
@@ -133,6 +139,7 @@ Rests w x (Unlinked context session attempts error) next did = Unit {0}
 Rests w x (Prepare context session link lease) next did = Unit {0}
 Rests w x (Relay a) next did = Unit {0}
 Rests w x (Broken context session link lease keep error) next did = Unit {0}
+Rests w x (Again context session link lease keep error) next did = Unit {0}
 Rests w x (Fail link lease keep session error) next did = Unit {0}
 Rests w x (Answer session owed attempts) next did = Unit {0}
 Rests w x (Close link lease keep outcome) next did =
@@ -181,6 +188,8 @@ module _ {L C : Type 0} (state : L → LinkState) (start_at : L → LinkStart) w
   TurnOf s x own (Prepare context session link lease) next = AdvancesOn state start_at s x own next
   TurnOf s x own (Relay a) next = AdvancesOn state start_at s x own next
   TurnOf s x own (Broken context session link lease keep error) next =
+      AdvancesOn state start_at s x own next ⊎ RepeatsOn state start_at s x next
+  TurnOf s x own (Again context session link lease keep error) next =
       AdvancesOn state start_at s x own next
   TurnOf s x own (Fail link lease keep session error) next = AdvancesOn state start_at s x own next
   TurnOf s x own (Close link lease keep outcome) next = Unit {0}

@@ -1,5 +1,5 @@
 -- What a failed exchange leaves, and what an attempt comes to whose error was treated.
-use Rattle.std.specs.Prelude.{◌≡◌, ◌<◌, Bool, false, [], length, Some}
+use Rattle.std.specs.Prelude.{◌≡◌, ℕ, ◌<◌, Bool, false, List, [], length, Some}
 use Rattle.std.specs.Global.{Box}
 use Rattle.relay_tasks.specs.declared.Error.{Error}
 use Rattle.relay_tasks.specs.declared.error.Fail.{Fail}
@@ -18,11 +18,11 @@ use Rattle.relay_proxy.specs.declared.machine.Phase.TheVariants as phase
 use Rattle.relay_proxy.specs.declared.outcome.Outcome.TheVariants as outcome
 
 -- what a failure leaves: a part of the exchange where memory was wanted, or that
-abbrev pub LeavesBy : Start → Passed → LinkState → LinkState → LinkStart → HttpSession → Fail
-    → Type 0
-LeavesBy s p client link start session fail.OutOfMemory = IsPartRelayed s p link start
-LeavesBy s p client link start session (fail.Error e) =
-    LeavesSession s p client link start session e
+abbrev pub LeavesBy : Start → Passed → LinkState → List ℕ → LinkState → LinkStart → HttpSession
+    → Fail → Type 0
+LeavesBy s p client ahead link start session fail.OutOfMemory = IsPartRelayed s p link start
+LeavesBy s p client ahead link start session (fail.Error e) =
+    LeavesSession s p client ahead link start session e
 
 -- what an attempt comes to whose error is that now, which was answered: what waits for the client
 -- is written then, or nothing does

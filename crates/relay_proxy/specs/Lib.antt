@@ -15,6 +15,7 @@ pub mod Uses
 pub mod Preparing
 pub mod Bound
 pub mod Turn
+pub mod Legs
 pub mod Closing
 pub mod Exact
 pub mod Refusals

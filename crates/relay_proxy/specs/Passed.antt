@@ -13,6 +13,7 @@ use Rattle.relay_phases.specs.Turns.{wrote_in}
 use Rattle.relay_core.specs.Past.{Origin}
 use Rattle.relay_peer.specs.Faults.{TellsSince}
 use Rattle.relay_attempt.specs.Passed.{Passed}
+use Rattle.relay_proxy.specs.declared.record.AttemptRecord.{AttemptRecord}
 
 -- the outside as one request sees it: the client's link, the bytes that were read ahead from it,
 -- and how many of the connector's calls failed
@@ -21,8 +22,10 @@ pub record World : Type 0 where
   pub ahead : List ℕ
   pub connect_faults : ℕ
 
--- the places and counts at which a request began, how many attempts it may make, the calls of hooks
--- that were made for it before its end, and the one in which an error was answered, if any
+-- the places and counts at which a request began, or at which one of its attempts left it for
+-- another; how many attempts it may make; the calls of hooks that were made for it before its end,
+-- and the one in which an error was answered, if any; the attempts up to the last one that had a
+-- link and was tried again, and how many were refused a link up to there
 pub record Start : Type 0 where
   pub ahead : List ℕ
   pub given : ℕ
@@ -34,6 +37,8 @@ pub record Start : Type 0 where
   pub most : ℕ
   pub called : List LogEntry
   pub closed : List LogEntry
+  pub tried : List AttemptRecord
+  pub refused : ℕ
 
 -- where a request begins that may make so many attempts, as the world stands
 abbrev pub start_of : ℕ → World → Start
@@ -48,7 +53,14 @@ start_of most w = record {
   most = most;
   called = [];
   closed = [];
+  tried = [];
+  refused = 0;
 }
+
+-- the same start, with the client's link where it stands: what was written to it and how many of
+-- its calls failed count from there
+abbrev pub based : Start → LinkState → Start
+based s client = record s { taken = told_length client.taken; faults = client.faults }
 
 -- with that hook the end of a request begins
 abbrev pub begins_end : Hook → Bool

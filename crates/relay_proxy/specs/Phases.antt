@@ -1,5 +1,5 @@
 -- The phases of a request: what has passed when it stands in each of them, and what is left to do.
-use Rattle.std.specs.Prelude.{◌≡◌, ◌≢◌, Bool, false, ℕ, List, [], ◌∷◌, Some}
+use Rattle.std.specs.Prelude.{◌≡◌, ◌≢◌, Bool, false, true, ℕ, List, [], ◌∷◌, Some}
 use Rattle.relay_tasks.specs.Head.{RequestHead}
 use Rattle.relay_tasks.specs.declared.Error.{Error}
 use Rattle.relay_tasks.specs.declared.Fault.{Fault}
@@ -10,6 +10,7 @@ use Rattle.relay_phases.specs.Turns.{wrote_in}
 use Rattle.relay_session.specs.Asked.{request_of}
 use Rattle.relay_session.specs.Reading.{head_of}
 use Rattle.relay_session.specs.Response.{Holds}
+use Rattle.relay_session.specs.Session.{is_as_begun}
 use Rattle.relay_session.specs.declared.session.HttpSession.{HttpSession}
 use Rattle.relay_session.specs.declared.writing.Outgoing.TheVariants as outgoing
 use Rattle.relay_sides.specs.Client.{BeginsBehind}
@@ -18,7 +19,7 @@ use Rattle.relay_attempt.specs.Order.{FailsFor, order_of, queued_in}
 use Rattle.relay_attempt.specs.Passed.{Passed}
 use Rattle.relay_attempt.specs.Head.{link_of}
 use Rattle.relay_proxy.specs.Relayable.{IsAccepted, IsRelayable}
-use Rattle.relay_proxy.specs.Passed.{World, Start, origin_of, asked, TellsClient, TellsLink, IsUnsent, IsUntouched}
+use Rattle.relay_proxy.specs.Passed.{World, Start, based, origin_of, asked, TellsClient, TellsLink, IsUnsent, IsUntouched}
 use Rattle.relay_proxy.specs.Sent.{Sends, RefusesToSend}
 use Rattle.relay_proxy.specs.Answer.{WaitsOf}
 use Rattle.relay_proxy.specs.Endings.{FailsToWrite, IsInOrder, IsUnconnected, Misses, error_of, EndsUnlinked, EndsLinked, EndsWith, AttemptsUnlinked}
@@ -30,7 +31,7 @@ use Rattle.relay_proxy.specs.declared.machine.Attempt.{Attempt}
 use Rattle.relay_proxy.specs.declared.machine.Lease.{Lease}
 use Rattle.relay_proxy.specs.declared.machine.Phase.{Phase}
 use Rattle.relay_proxy.specs.declared.record.AttemptRecord.{AttemptRecord}
-use Rattle.relay_proxy.specs.declared.machine.Phase.TheVariants.{ReadHead, Connect, Unlinked, Prepare, Relay, Broken, Fail, Close, Answer, Ended}
+use Rattle.relay_proxy.specs.declared.machine.Phase.TheVariants.{ReadHead, Connect, Unlinked, Prepare, Relay, Broken, Again, Fail, Close, Answer, Ended}
 
 -- the client's head is read: nothing was taken from what is ahead
 pub record IsReadingHead (s : Start) (p : Passed) (ahead : List ℕ) : Type 0 where
@@ -82,8 +83,8 @@ pub record IsPreparing (s : Start) (p : Passed) (w : World) (link : LinkState) (
 -- an exchange failed with that error, and left that session: it answers the request, with the tasks
 -- that were queued, of whose text so much was written; where it keeps the fault of a write, a write
 -- of the client's link failed
-pub record LeavesSession (s : Start) (p : Passed) (client link : LinkState) (start : LinkStart)
-    (session : HttpSession) (e : Error) : Type 0 where
+pub record LeavesSession (s : Start) (p : Passed) (client : LinkState) (ahead : List ℕ)
+    (link : LinkState) (start : LinkStart) (session : HttpSession) (e : Error) : Type 0 where
   pub head : RequestHead
   pub sent : RequestHead
   pub relayable : IsRelayable head
@@ -93,6 +94,12 @@ pub record LeavesSession (s : Start) (p : Passed) (client link : LinkState) (sta
   pub holds : Holds session.writing (queued_in (order_of why)) p.written
   pub broken : (fault : Fault) → session.writing.output ≡ outgoing.Broken fault
       → FailsToWrite s client
+  -- the session has the client's head as hooks left it, and they answered nothing
+  pub is_left : head_of session.reading ≡ Some (head_behind head s.called)
+  pub quiet : wrote_in s.called ≡ []
+  -- another attempt may begin with it where it stands as it did behind its head
+  pub again : is_as_begun session ≡ true
+      → BeginsBehind (origin_of (based s client) head sent start.reused) p.came client ahead session
 
 -- an attempt failed with that error ahead of its exchange, over a link that was handed out and is
 -- kept or not: the session has nothing queued yet
@@ -107,7 +114,7 @@ pub record LeavesAhead (s : Start) (p : Passed) (w : World) (link : LinkState) (
 -- in its exchange, or ahead of it
 pub data IsBroken (s : Start) (p : Passed) (w : World) (link : LinkState) (start : LinkStart)
     (session : HttpSession) (lease : Lease) (keep : Bool) (e : Error) : Type 0 where
-  in_exchange : LeavesSession s p w.client link start session e → keep ≡ false
+  in_exchange : LeavesSession s p w.client w.ahead link start session e → keep ≡ false
       → IsBroken s p w link start session lease keep e
   ahead_of_it : LeavesAhead s p w link start session lease keep e
       → IsBroken s p w link start session lease keep e
@@ -132,6 +139,10 @@ module _ {L C : Type 0} (state : L → LinkState) (start_at : L → LinkStart) w
     pub sends : Sends s.called head sent
     pub under_way : IsUnderWay state start_at (origin_of s head sent a.lease.reused) p w.client
         w.ahead a.exchange
+    -- its session has the client's head as hooks left it, and they answered nothing
+    pub is_left : head_of a.exchange.exchange.down.session.reading
+        ≡ Some (head_behind head s.called)
+    pub quiet : wrote_in s.called ≡ []
 
   -- what has passed in each phase
   abbrev pub IsAt : Start → Passed → World → Phase L C → Type 0
@@ -146,6 +157,7 @@ module _ {L C : Type 0} (state : L → LinkState) (start_at : L → LinkStart) w
   IsAt s p w (Broken context session link lease keep error) =
       IsLeased s p (state link) (start_at link) lease
       × IsBroken s p w (state link) (start_at link) session.value lease keep error
+  IsAt s p w (Again context session link lease keep error) = ⊥
   IsAt s p w (Fail link lease keep session error) =
       IsLeased s p (state link) (start_at link) lease
       × IsFailing state start_at s p w link keep session.value error
@@ -167,6 +179,7 @@ module _ {L C : Type 0} (state : L → LinkState) (start_at : L → LinkStart) w
   PhaseHolds s p w (r ∷ own) (Prepare context session link lease) = ⊥
   PhaseHolds s p w (r ∷ own) (Relay a) = ⊥
   PhaseHolds s p w (r ∷ own) (Broken context session link lease keep error) = ⊥
+  PhaseHolds s p w (r ∷ own) (Again context session link lease keep error) = ⊥
   PhaseHolds s p w (r ∷ own) (Fail link lease keep session error) = ⊥
   PhaseHolds s p w (r ∷ own) (Close link lease keep outcome) = ⊥
   PhaseHolds s p w (r ∷ own) (Answer session owed attempts) =
@@ -182,6 +195,7 @@ module _ {L C : Type 0} (state : L → LinkState) (start_at : L → LinkStart) w
   IsGoing (Prepare context session link lease) = Unit {0}
   IsGoing (Relay a) = Unit {0}
   IsGoing (Broken context session link lease keep error) = Unit {0}
+  IsGoing (Again context session link lease keep error) = Unit {0}
   IsGoing (Fail link lease keep session error) = Unit {0}
   IsGoing (Answer session owed attempts) = Unit {0}
   IsGoing (Close link lease keep outcome) = outcome ≢ TurnLimit
@@ -195,6 +209,7 @@ module _ {L C : Type 0} (state : L → LinkState) (start_at : L → LinkStart) w
   IsCalm s w (Prepare context session link lease) = w.client.faults ≡ s.faults
   IsCalm s w (Relay a) = w.client.faults ≡ s.faults
   IsCalm s w (Broken context session link lease keep error) = Unit {0}
+  IsCalm s w (Again context session link lease keep error) = Unit {0}
   IsCalm s w (Fail link lease keep session error) = Unit {0}
   IsCalm s w (Answer session owed attempts) = Unit {0}
   IsCalm s w (Close link lease keep outcome) = Unit {0}

@@ -5,7 +5,7 @@ use Rattle.relay_links.specs.Told.{Gains}
 use Rattle.relay_links.specs.declared.Returned.{Returned}
 use Rattle.relay_proxy.specs.Tries.{tries_in, tries_of}
 use Rattle.relay_proxy.specs.declared.machine.Phase.{Phase}
-use Rattle.relay_proxy.specs.declared.machine.Phase.TheVariants.{ReadHead, Connect, Unlinked, Prepare, Relay, Broken, Fail, Close, Answer, Ended}
+use Rattle.relay_proxy.specs.declared.machine.Phase.TheVariants.{ReadHead, Connect, Unlinked, Prepare, Relay, Broken, Again, Fail, Close, Answer, Ended}
 use Rattle.relay_proxy.specs.declared.record.AttemptRecord.{AttemptRecord}
 
 -- the fault of a record, where it has one
@@ -32,6 +32,7 @@ attempts_in (Unlinked context session attempts error) = attempts
 attempts_in (Prepare context session link lease) = tries_in lease
 attempts_in (Relay a) = tries_in a.value.lease
 attempts_in (Broken context session link lease keep error) = tries_in lease
+attempts_in (Again context session link lease keep error) = tries_in lease
 attempts_in (Fail link lease keep session error) = tries_in lease
 attempts_in (Close link lease keep outcome) = tries_in lease
 attempts_in (Answer session owed attempts) = attempts
@@ -50,6 +51,7 @@ faults_of_turn (Unlinked context session attempts error) next = []
 faults_of_turn (Prepare context session link lease) next = []
 faults_of_turn (Relay a) next = []
 faults_of_turn (Broken context session link lease keep error) next = []
+faults_of_turn (Again context session link lease keep error) next = []
 faults_of_turn (Fail link lease keep session error) next = []
 faults_of_turn (Close link lease keep outcome) next = []
 faults_of_turn (Answer session owed attempts) next = []

@@ -18,7 +18,7 @@ use Rattle.relay_attempt.specs.declared.h1_exchange.H1Exchange.{H1Exchange}
 use Rattle.relay_proxy.specs.Uses.{Measured}
 use Rattle.relay_proxy.specs.declared.machine.Attempt.{Attempt}
 use Rattle.relay_proxy.specs.declared.machine.Phase.{Phase}
-use Rattle.relay_proxy.specs.declared.machine.Phase.TheVariants.{ReadHead, Connect, Unlinked, Prepare, Relay, Broken, Fail, Close, Answer, Ended}
+use Rattle.relay_proxy.specs.declared.machine.Phase.TheVariants.{ReadHead, Connect, Unlinked, Prepare, Relay, Broken, Again, Fail, Close, Answer, Ended}
 
 -- the exchange of an attempt is under way
 abbrev pub is_relaying : {L C : Type 0} → Phase L C → Bool
@@ -28,6 +28,7 @@ is_relaying (Unlinked context session attempts error) = false
 is_relaying (Prepare context session link lease) = false
 is_relaying (Relay a) = true
 is_relaying (Broken context session link lease keep error) = false
+is_relaying (Again context session link lease keep error) = false
 is_relaying (Fail link lease keep session error) = false
 is_relaying (Close link lease keep outcome) = false
 is_relaying (Answer session owed attempts) = false
@@ -41,6 +42,7 @@ is_closing (Unlinked context session attempts error) = false
 is_closing (Prepare context session link lease) = false
 is_closing (Relay a) = false
 is_closing (Broken context session link lease keep error) = false
+is_closing (Again context session link lease keep error) = true
 is_closing (Fail link lease keep session error) = true
 is_closing (Close link lease keep outcome) = true
 is_closing (Answer session owed attempts) = false

@@ -1,6 +1,6 @@
 -- One request over one proxy: what a step and the end make of its run so far, and what the whole
 -- call promises.
-use Rattle.std.specs.Prelude.{◌≡◌, ◌≢◌, ℕ, ◌+◌, ◌≤◌, ◌⊎◌, Bool, true, false, ◌&&◌, not, List, ◌++◌, length, Option, None}
+use Rattle.std.specs.Prelude.{◌≡◌, ◌≢◌, ℕ, ◌+◌, ◌≤◌, ◌⊎◌, Bool, true, false, ◌&&◌, not, List, [], ◌∷◌, ◌++◌, drop, length, map, Option, None}
 use Rattle.relay_links.specs.Connector.{Offer}
 use Rattle.relay_links.specs.Count.{up}
 use Rattle.relay_links.specs.Link.{LinkState, LinkStart}
@@ -10,21 +10,22 @@ use Rattle.relay_tasks.specs.declared.took.Pause.TheVariants.{NotReady, Silent}
 use Rattle.relay_links.specs.declared.Returned.{Returned}
 use Rattle.relay_attempt.specs.Passed.{Passed}
 use Rattle.relay_proxy.specs.Passed.{World, Start}
-use Rattle.relay_proxy.specs.Bound.{IsBounded, IsWithin, OwnGave, PhaseCounts, most_sides}
+use Rattle.relay_proxy.specs.Bound.{IsBounded, IsWithin, LinkGave, OwnGave, PhaseCounts, most_sides, sides_before}
 use Rattle.relay_proxy.specs.Endings.{IsEnded}
 use Rattle.relay_proxy.specs.Exact.{IsExact}
+use Rattle.relay_proxy.specs.Legs.{AreLegs, BeginsAt, IsLeg, Leg, LegsUse, LegsWithin, behind, rebased, taken_by, taken_to}
 use Rattle.relay_proxy.specs.Taken.{Takes, TakesOn, offers_for, offers_before}
 use Rattle.relay_proxy.specs.Phases.{RunSoFar}
-use Rattle.relay_proxy.specs.Refusals.{faults_for, faults_before, AnswersFaults}
+use Rattle.relay_proxy.specs.Refusals.{faults_for, faults_before, faults_told, AnswersFaults}
 use Rattle.relay_proxy.specs.Turn.{IsStalled, is_over}
-use Rattle.relay_proxy.specs.Uses.{PhaseUses, OwnUses, StepCounts, CountsAll}
+use Rattle.relay_proxy.specs.Uses.{PhaseUses, OwnUses, LinkCounts, StepCounts, CountsAll}
 use Rattle.relay_proxy.specs.Calls.{given_at, is_ending}
 use Rattle.relay_proxy.specs.Closing.{IsQuiet}
 use Rattle.relay_proxy.specs.ClosingHooks.{Gives}
 use Rattle.relay_proxy.specs.declared.calls.At.{At}
 use Rattle.relay_proxy.specs.Work.{added_work}
 use Rattle.relay_proxy.specs.declared.machine.Phase.{Phase}
-use Rattle.relay_proxy.specs.declared.machine.Phase.TheVariants.{ReadHead, Connect, Unlinked, Prepare, Relay, Broken, Fail, Close, Answer, Ended}
+use Rattle.relay_proxy.specs.declared.machine.Phase.TheVariants.{ReadHead, Connect, Unlinked, Prepare, Relay, Broken, Again, Fail, Close, Answer, Ended}
 use Rattle.relay_proxy.specs.declared.machine.RunStep.{RunStep}
 use Rattle.relay_proxy.specs.declared.machine.RunStep.TheVariants as did
 use Rattle.relay_proxy.specs.declared.outcome.Outcome.{Outcome}
@@ -79,6 +80,7 @@ CameTo (Unlinked context session attempts error) came = came ≡ TurnLimit
 CameTo (Prepare context session link lease) came = came ≡ TurnLimit
 CameTo (Relay a) came = came ≡ TurnLimit
 CameTo (Broken context session link lease keep error) came = came ≡ TurnLimit
+CameTo (Again context session link lease keep error) came = came ≡ TurnLimit
 CameTo (Fail link lease keep session error) came = came ≡ TurnLimit
 CameTo (Close link lease keep outcome) came = came ≡ outcome
 CameTo (Answer session owed attempts) came = came ≡ TurnLimit
@@ -89,7 +91,7 @@ module _ {L C : Type 0} (state : L → LinkState) (start_at : L → LinkStart) w
   -- which differ in the calls that were made, and handed these links back; it took no more of the
   -- connector's offers than the request's link, or the fault with which the request ended; and the
   -- connector answered no fault but that one
-  pub record StepsOn
+  pub record GoesOn
       (s t : Start) (p : Passed) (w : World) (own : List (Returned L))
       (before after : Option (List (Returned L))) (told_before told_after : Option (List Fault))
       (had has : Option (List Offer)) (client : LinkState) (ahead : List ℕ) (was now : Work)
@@ -111,6 +113,54 @@ module _ {L C : Type 0} (state : L → LinkState) (start_at : L → LinkStart) w
         (own ++ handed) next
     -- a request that has ended passes nothing more
     pub rested : is_over phase ≡ true → passed ≡ p
+
+  -- a step handed the link of an attempt back that failed, and another attempt follows, which
+  -- begins anew behind it
+  pub record BeginsAgain
+      (s t : Start) (w : World) (own : List (Returned L))
+      (before after : Option (List (Returned L))) (told_before told_after : Option (List Fault))
+      (had has : Option (List Offer)) (client : LinkState) (ahead : List ℕ) (was now : Work)
+      (phase next : Phase L C) : Type 0 where
+    pub going : is_over phase ≡ false
+    pub none : own ≡ []
+    pub leg : Leg L
+    pub is_leg : IsLeg state start_at leg
+    pub begins : BeginsAt t leg
+    pub stands : leg.client ≡ w.client
+    pub gained : after ≡ more before (leg.back ∷ [])
+    pub passed : Passed
+    pub run : RunSoFar state start_at (rebased t leg) passed w [] next
+    pub refused : AnswersFaults told_before told_after [] phase [] next
+    pub taken : List Offer
+    pub takes : Takes had taken has
+    pub offered : offers_before start_at [] phase ++ taken ≡ taken_to start_at leg
+    -- so often were both links asked
+    pub uses : (n : ℕ) → PhaseUses state start_at n [] phase
+        → LinkCounts state start_at n client w.client was.used now.used leg.back.link
+    pub unused : PhaseUses state start_at 0 [] next
+    -- and so much it counted of tasks and ends
+    pub work : Work
+    pub adds : now ≡ added_work was work
+    pub bounded : (tasks ends : ℕ) → PhaseCounts state start_at tasks ends s client ahead [] phase
+        → IsWithin (work.moved + tasks) (work.ended + ends) (sides_before (1 + length leg.tries)) t
+        w.client (LinkGave state start_at leg.back.link)
+    pub counts : PhaseCounts state start_at 0 (2 + length leg.tries) (rebased t leg) w.client
+        w.ahead [] next
+
+  -- what a step makes of a run so far
+  pub data StepsOn
+      (s t : Start) (p : Passed) (w : World) (own : List (Returned L))
+      (before after : Option (List (Returned L))) (told_before told_after : Option (List Fault))
+      (had has : Option (List Offer)) (client : LinkState) (ahead : List ℕ) (was now : Work)
+      (phase next : Phase L C) : Type 0 where
+    goes : GoesOn s t p w own before after told_before told_after had has client ahead was now phase
+        next
+        → StepsOn s t p w own before after told_before told_after had has client ahead was now
+        phase next
+    again : BeginsAgain s t w own before after told_before told_after had has client ahead was now
+        phase next
+        → StepsOn s t p w own before after told_before told_after had has client ahead was now
+        phase next
 
   -- a request came to its end, the hooks of which stand there
   pub record ComesToEnd {K : Type 0}
@@ -142,34 +192,44 @@ module _ {L C : Type 0} (state : L → LinkState) (start_at : L → LinkStart) w
     pub quiet : came ≡ TurnLimit → IsStalled state start_at w phase
         → IsQuiet state start_at s p w (own ++ handed)
 
--- a whole request: what passed is told by the links, in order; the connector's lists gained the
--- links that were handed back, and the faults with which it refused one; and the outcome has its
--- cause
+-- a whole request: the attempts that failed over their links and were tried again, and then what
+-- passed in the last one is told by the links, in order; the connector's lists gained the links that
+-- were handed back, and the faults with which it refused one; and the outcome has its cause
 pub record Processes {L : Type 0} (state : L → LinkState) (start_at : L → LinkStart)
     (s : Start) (w : World) (before after : Option (List (Returned L)))
     (told_before told_after : Option (List Fault)) (had has : Option (List Offer))
     (client : LinkState) (turns : ℕ) (processed : Processed) : Type 0 where
+  pub legs : List (Leg L)
+  pub are_legs : AreLegs state start_at s legs
   pub passed : Passed
   pub own : List (Returned L)
-  pub gained : after ≡ more before own
+  pub gained : after ≡ more before (map (λ leg. leg.back) legs ++ own)
   -- what it came to, as far as its links go; the outcome is that, `logging` having been told of its
   -- error, or turns or memory ran out in the hooks of its end
   pub came : Outcome
-  pub ended : IsEnded state start_at s passed w own processed.history.attempts came
+  pub ended : IsEnded state start_at (behind s legs) passed w own processed.history.attempts came
   pub given : Gives processed.history.log came processed.outcome
   -- the connector refused a link exactly where an attempt had none, and its record tells of the
   -- fault
   pub refused : Gains told_before (faults_for own processed.history.attempts) told_after
-  -- of what the connector had it took the first: those faults, and then the link
-  pub offered : Takes had (offers_for start_at own processed.history.attempts) has
+  -- of what the connector had it took the first: those faults and the links, in order
+  pub offered : Takes had (taken_by start_at legs
+      ++ drop (length (faults_told (behind s legs).tried))
+      (offers_for start_at own processed.history.attempts)) has
   -- a request makes no more attempts than it may
   pub attempts : 1 ≤ s.most → length processed.history.attempts ≤ s.most
-  -- what is recorded of uses are those of the client's link, and of the link that was handed back
-  pub uses : CountsAll state start_at client w.client own processed.history.items_used
-  -- what is recorded of turns, of tasks and of ends is bounded by the bytes that both links gave
-  pub bounded : IsBounded state start_at s w.client own processed.history
+  -- what is recorded of uses are those of the client's link, and of the links that were handed back
+  pub used : ℕ
+  pub legs_used : LegsUse state start_at used legs
+  pub uses : CountsAll state start_at client w.client used own processed.history.items_used
+  -- what is recorded of turns, of tasks and of ends is bounded by the bytes that the links gave
+  pub tasks : ℕ
+  pub ends : ℕ
+  pub legs_within : LegsWithin state start_at tasks ends legs
+  pub bounded : IsBounded state start_at (behind s legs) w.client tasks ends own processed.history
   -- the other way round: where a cause stands, the outcome is its own
-  pub exact : IsExact state start_at s passed w own came
+  pub exact : IsExact state start_at (behind s legs) passed w own came
   -- a request that has not ended took all its turns, or all that it asks is silent
   pub limit : processed.outcome ≡ TurnLimit
-      → (processed.history.turns_taken ≡ turns) ⊎ IsQuiet state start_at s passed w own
+      → (processed.history.turns_taken ≡ turns)
+      ⊎ IsQuiet state start_at (behind s legs) passed w own

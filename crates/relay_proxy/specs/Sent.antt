@@ -1,6 +1,6 @@
 -- The head that an attempt sends of the client's (RFC 9110, section 7.6; RFC 9112, sections 3.2 and
 -- 6).
-use Rattle.std.specs.Prelude.{◌≡◌, ◌⊎◌, Bool, true, false, not, ◌&&◌, List, [], ◌∷◌, ◌++◌, Option, Some, None, Result, Ok, Err}
+use Rattle.std.specs.Prelude.{◌≡◌, ◌⊎◌, Bool, true, false, not, ◌&&◌, ◌||◌, List, [], ◌∷◌, ◌++◌, Option, Some, None, Result, Ok, Err}
 use Rattle.std.specs.List.{list_any}
 use Rattle.relay_tasks.specs.Head.{RequestHead}
 use Rattle.relay_tasks.specs.declared.Context.TheVariants.{BadFraming}
@@ -67,9 +67,19 @@ abbrev pub only_treats : List LogEntry → Bool
 only_treats [] = true
 only_treats (e ∷ es) = is_of hook.ErrorWhileProxy e && only_treats es
 
--- none of these calls is one
+-- whether the error of an attempt was treated, behind which no other attempt has followed: such a
+-- call leaves one, and where another attempt follows it is asked for its warning
+abbrev pub leaves_treated : Bool → LogEntry → Bool
+leaves_treated left e =
+    is_of hook.ErrorWhileProxy e || (left && not (is_of hook.SuppressProxyWarnLog e))
+
+abbrev pub treated_from : Bool → List LogEntry → Bool
+treated_from left [] = left
+treated_from left (e ∷ es) = treated_from (leaves_treated left e) es
+
+-- these calls leave none
 abbrev pub IsUntreated : List LogEntry → Type 0
-IsUntreated called = list_any (is_of hook.ErrorWhileProxy) called ≡ false
+IsUntreated called = treated_from false called ≡ false
 
 -- the last of these calls in which the error of an attempt was treated was told the one error, and
 -- answered the other

@@ -6,7 +6,7 @@ use Rattle.relay_links.specs.Link.{LinkStart, LinkItems}
 use Rattle.relay_links.specs.declared.Returned.{Returned}
 use Rattle.relay_attempt.specs.Head.{link_of}
 use Rattle.relay_proxy.specs.declared.machine.Phase.{Phase}
-use Rattle.relay_proxy.specs.declared.machine.Phase.TheVariants.{ReadHead, Connect, Unlinked, Prepare, Relay, Broken, Fail, Close, Answer, Ended}
+use Rattle.relay_proxy.specs.declared.machine.Phase.TheVariants.{ReadHead, Connect, Unlinked, Prepare, Relay, Broken, Again, Fail, Close, Answer, Ended}
 
 -- the items of the link that a phase holds
 abbrev pub items_held : {L C : Type 0} → (L → LinkStart) → Phase L C → List (Option LinkItems)
@@ -16,6 +16,7 @@ items_held start (Unlinked context session attempts error) = []
 items_held start (Prepare context session link lease) = (start link).items ∷ []
 items_held start (Relay a) = (start (link_of a.value.exchange)).items ∷ []
 items_held start (Broken context session link lease keep error) = (start link).items ∷ []
+items_held start (Again context session link lease keep error) = (start link).items ∷ []
 items_held start (Fail link lease keep session error) = (start link).items ∷ []
 items_held start (Close link lease keep outcome) = (start link).items ∷ []
 items_held start (Answer session owed attempts) = []

@@ -9,7 +9,7 @@ use Rattle.relay_links.specs.declared.Returned.{Returned}
 use Rattle.relay_proxy.specs.Refusals.{faults_for, faults_before, faults_told}
 use Rattle.relay_proxy.specs.Stock.{items_held, items_back}
 use Rattle.relay_proxy.specs.declared.machine.Phase.{Phase}
-use Rattle.relay_proxy.specs.declared.machine.Phase.TheVariants.{ReadHead, Connect, Unlinked, Prepare, Relay, Broken, Fail, Close, Answer, Ended}
+use Rattle.relay_proxy.specs.declared.machine.Phase.TheVariants.{ReadHead, Connect, Unlinked, Prepare, Relay, Broken, Again, Fail, Close, Answer, Ended}
 use Rattle.relay_proxy.specs.declared.record.AttemptRecord.{AttemptRecord}
 
 -- these were the next of the offers, in order, and those are left; past the last of them there are
@@ -48,6 +48,7 @@ offers_of_turn start (Unlinked context session attempts error) next = []
 offers_of_turn start (Prepare context session link lease) next = []
 offers_of_turn start (Relay a) next = []
 offers_of_turn start (Broken context session link lease keep error) next = []
+offers_of_turn start (Again context session link lease keep error) next = []
 offers_of_turn start (Fail link lease keep session error) next = []
 offers_of_turn start (Close link lease keep outcome) next = []
 offers_of_turn start (Answer session owed attempts) next = []

@@ -1,6 +1,7 @@
 -- The attempts of a request that were given no link, as its calls tell them, and when another
 -- follows: nothing was sent in them, so each request may be tried again (RFC 9110, section 9.2.2).
-use Rattle.std.specs.Prelude.{◌≡◌, ◌≢◌, ℕ, ◌<◌, false, true, All, List, [], ◌∷◌, ◌++◌, length, map, Option, None, Some, if◌then◌else◌}
+-- Those that had a link stand beside them, as they were recorded.
+use Rattle.std.specs.Prelude.{◌≡◌, ◌≢◌, ℕ, ◌<◌, ◌≤◌, false, true, All, drop, List, [], ◌∷◌, ◌++◌, length, map, Option, None, Some, if◌then◌else◌}
 use Rattle.relay_tasks.specs.Error.{error_of_fault, may_retry}
 use Rattle.relay_tasks.specs.Hooks.{same_hook}
 use Rattle.relay_tasks.specs.declared.Error.{Error}
@@ -82,6 +83,12 @@ record_of r = unlinked_record r.peer (fault_of r.raised) (upstream_error r.treat
 abbrev pub IsRaised : Refusal → Type 0
 IsRaised r = r.raised ≡ error_of_fault (fault_of r.raised)
 
+-- all attempts but the last
+abbrev pub tries_of : List AttemptRecord → List AttemptRecord
+tries_of [] = []
+tries_of (a ∷ []) = []
+tries_of (a ∷ b ∷ attempts) = a ∷ tries_of (b ∷ attempts)
+
 -- ---- when another follows
 
 -- another attempt may be made behind so many, the last of which failed with that error before
@@ -94,10 +101,15 @@ pub record IsTry (r : Refusal) : Type 0 where
   pub raised : IsRaised r
   pub again : may_retry r.treated.retry ≡ true
 
--- the attempts before another one are those of which the calls tell: each was refused so, and one
--- more was allowed
+-- the refusals of which the calls tell behind the last attempt that had a link and was tried again
+abbrev pub refusals_since : Start → List Refusal
+refusals_since s = drop s.refused (refusals_in s.called)
+
+-- the attempts before another one are those up to the last that had a link and was tried again, and
+-- then those of which the calls tell: each was refused so, and one more was allowed
 pub record AreTries (s : Start) (tries : List AttemptRecord) : Type 0 where
-  pub told : tries ≡ map record_of (refusals_in s.called)
+  pub fits : s.refused ≤ length (refusals_in s.called)
+  pub told : tries ≡ s.tried ++ map record_of (refusals_since s)
   pub each : All IsTry (refusals_in s.called)
   pub allowed : tries ≢ [] → length tries < s.most
 
@@ -110,13 +122,15 @@ pub record IsRefusedFor (called : List LogEntry) (e : Error) : Type 0 where
   pub raised : IsRaised last
   pub error : e ≡ upstream_error last.treated
 
--- the attempts of a request whose last one failed with that error, for it was given no link: they
--- are those of which the calls tell, and no other one could follow
+-- the attempts of a request whose last one failed with that error, for it was given no link: behind
+-- those up to the last that had a link they are those of which the calls tell, and no other one
+-- could follow
 pub record EndsTrying (s : Start) (attempts : List AttemptRecord) (e : Error) : Type 0 where
   pub refused : IsRefusedFor s.called e
-  pub told : attempts ≡ map record_of (refusals_in s.called)
+  pub fits : s.refused ≤ length refused.before
+  pub told : attempts ≡ s.tried ++ map record_of (refusals_since s)
   pub each : All IsTry refused.before
-  pub allowed : refused.before ≢ [] → length refused.before < s.most
+  pub allowed : tries_of attempts ≢ [] → length (tries_of attempts) < s.most
   pub over : ¬ (MayTry s.most (length attempts) e)
 
 -- behind attempts that another one followed, that was refused a link, and memory was wanted as the
@@ -130,12 +144,6 @@ pub record LosesTry (s : Start) (attempts : List AttemptRecord) : Type 0 where
   pub kind : IsConnectFault fault
   pub attempts_are : attempts
       ≡ tries ++ unlinked_record peer fault (fault_error Upstream fault) ∷ []
-
--- all attempts but the last
-abbrev pub tries_of : List AttemptRecord → List AttemptRecord
-tries_of [] = []
-tries_of (a ∷ []) = []
-tries_of (a ∷ b ∷ attempts) = a ∷ tries_of (b ∷ attempts)
 
 -- the attempts before the one that holds this lease
 abbrev pub tries_in : Lease → List AttemptRecord

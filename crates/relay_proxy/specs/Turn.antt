@@ -15,10 +15,11 @@ use Rattle.relay_attempt.specs.Head.{link_of}
 use Rattle.relay_proxy.specs.Passed.{World, Start}
 use Rattle.relay_proxy.specs.Phases.{RunSoFar}
 use Rattle.relay_proxy.specs.Relaying.{is_closing, is_relaying}
+use Rattle.relay_proxy.specs.Tries.{tries_in}
 use Rattle.relay_proxy.specs.Uses.{ExchangeMoved, OwesAnswer}
 use Rattle.relay_proxy.specs.Work.{total_work}
 use Rattle.relay_proxy.specs.declared.machine.Phase.{Phase}
-use Rattle.relay_proxy.specs.declared.machine.Phase.TheVariants.{ReadHead, Connect, Unlinked, Prepare, Relay, Broken, Fail, Close, Answer, Ended}
+use Rattle.relay_proxy.specs.declared.machine.Phase.TheVariants.{ReadHead, Connect, Unlinked, Prepare, Relay, Broken, Again, Fail, Close, Answer, Ended}
 use Rattle.relay_proxy.specs.declared.machine.RunStep.{RunStep}
 use Rattle.relay_proxy.specs.declared.machine.RunStep.TheVariants as step
 use Rattle.relay_proxy.specs.declared.record.AttemptRecord.{AttemptRecord}
@@ -49,6 +50,7 @@ is_reading_head (Unlinked context session attempts error) = false
 is_reading_head (Prepare context session link lease) = false
 is_reading_head (Relay a) = false
 is_reading_head (Broken context session link lease keep error) = false
+is_reading_head (Again context session link lease keep error) = false
 is_reading_head (Fail link lease keep session error) = false
 is_reading_head (Close link lease keep outcome) = false
 is_reading_head (Answer session owed attempts) = false
@@ -62,6 +64,7 @@ is_connecting (Unlinked context session attempts error) = false
 is_connecting (Prepare context session link lease) = false
 is_connecting (Relay a) = false
 is_connecting (Broken context session link lease keep error) = false
+is_connecting (Again context session link lease keep error) = false
 is_connecting (Fail link lease keep session error) = false
 is_connecting (Close link lease keep outcome) = false
 is_connecting (Answer session owed attempts) = false
@@ -75,6 +78,7 @@ held_state state (Unlinked context session attempts error) = None
 held_state state (Prepare context session link lease) = Some (state link)
 held_state state (Relay a) = Some (state (link_of a.value.exchange))
 held_state state (Broken context session link lease keep error) = Some (state link)
+held_state state (Again context session link lease keep error) = Some (state link)
 held_state state (Fail link lease keep session error) = Some (state link)
 held_state state (Close link lease keep outcome) = Some (state link)
 held_state state (Answer session owed attempts) = None
@@ -103,6 +107,7 @@ module _ {L C : Type 0} (state : L → LinkState) (start_at : L → LinkStart) w
   links_held (Prepare context session link lease) = 1
   links_held (Relay a) = 1
   links_held (Broken context session link lease keep error) = 1
+  links_held (Again context session link lease keep error) = 1
   links_held (Fail link lease keep session error) = 1
   links_held (Close link lease keep outcome) = 1
   links_held (Answer session owed attempts) = 0
@@ -129,6 +134,7 @@ module _ {L C : Type 0} (state : L → LinkState) (start_at : L → LinkStart) w
   IsStalled w (Relay a) =
       SilentIn state start_at w.client a.value.exchange
   IsStalled w (Broken context session link lease keep error) = ⊥
+  IsStalled w (Again context session link lease keep error) = ⊥
   IsStalled w (Fail link lease keep session error) = ⊥
   IsStalled w (Close link lease keep outcome) = ⊥
   IsStalled w (Answer session owed attempts) = w.client.silent_on_write ≡ true
@@ -147,11 +153,27 @@ module _ {L C : Type 0} (state : L → LinkState) (start_at : L → LinkStart) w
     pub session : Box HttpSession
     pub goes_on : next ≡ Connect context session tries
 
+  -- another attempt follows one that had a link, behind these: the link is to be handed back, or it
+  -- was, and the attempt was recorded
+  abbrev pub IsAgain : List AttemptRecord → Phase L C → Type 0
+  IsAgain tries ReadHead = ⊥
+  IsAgain tries (Connect context session attempts) =
+      (attempt : AttemptRecord) × (attempts ≡ tries ++ attempt ∷ [])
+  IsAgain tries (Unlinked context session attempts error) = ⊥
+  IsAgain tries (Prepare context session link lease) = ⊥
+  IsAgain tries (Relay a) = ⊥
+  IsAgain tries (Broken context session link lease keep error) = ⊥
+  IsAgain tries (Again context session link lease keep error) = tries_in lease ≡ tries
+  IsAgain tries (Fail link lease keep session error) = ⊥
+  IsAgain tries (Close link lease keep outcome) = ⊥
+  IsAgain tries (Answer session owed attempts) = ⊥
+  IsAgain tries (Ended outcome attempts) = ⊥
+
   -- what a turn moved: bytes of the client's head came, or it was judged; a hook was called; a link
   -- was given, or none and another attempt follows; the exchange over that link began; the client
   -- is owed an answer for one of these; a branch of the exchange moved, or it failed and the client
-  -- is owed an answer, which the treatment of an attempt's error leads to; or bytes of that were
-  -- taken
+  -- is owed an answer, which the treatment of an attempt's error leads to, or another attempt
+  -- follows; or bytes of that answer were taken
   abbrev pub HasMoved : World → World → Phase L C → Phase L C → Type 0
   HasMoved w x ReadHead next = HasGiven w.client x.client ⊎ (is_reading_head next ≡ false)
   HasMoved w x (Connect context session tries) next =
@@ -162,7 +184,9 @@ module _ {L C : Type 0} (state : L → LinkState) (start_at : L → LinkStart) w
   HasMoved w x (Relay a) next =
       ((branch : Option Branch) × ExchangeMoved state start_at branch w x a.value.exchange next)
       ⊎ OwesAnswer next
-  HasMoved w x (Broken context session link lease keep error) next = OwesAnswer next
+  HasMoved w x (Broken context session link lease keep error) next =
+      OwesAnswer next ⊎ IsAgain (tries_in lease) next
+  HasMoved w x (Again context session link lease keep error) next = IsAgain (tries_in lease) next
   HasMoved w x (Fail link lease keep session error) next = OwesAnswer next
   HasMoved w x (Answer session owed attempts) next = HasTaken w.client x.client
   HasMoved w x (Close link lease keep outcome) next = ⊥
@@ -199,6 +223,7 @@ WorksIn (Unlinked context session attempts error) did work = DoesWork did work
 WorksIn (Prepare context session link lease) did work = DoesWork did work
 WorksIn (Relay a) did work = DoesWork did work
 WorksIn (Broken context session link lease keep error) did work = DoesWork did work
+WorksIn (Again context session link lease keep error) did work = DoesWork did work
 WorksIn (Fail link lease keep session error) did work = DoesWork did work
 WorksIn (Answer session owed attempts) did work = DoesWork did work
 WorksIn (Close link lease keep outcome) did work = (total_work work ≡ 0) × (did ≡ step.Ended)
@@ -212,6 +237,7 @@ is_over (Unlinked context session attempts error) = false
 is_over (Prepare context session link lease) = false
 is_over (Relay a) = false
 is_over (Broken context session link lease keep error) = false
+is_over (Again context session link lease keep error) = false
 is_over (Fail link lease keep session error) = false
 is_over (Close link lease keep outcome) = true
 is_over (Answer session owed attempts) = false

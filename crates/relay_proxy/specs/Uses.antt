@@ -17,7 +17,7 @@ use Rattle.relay_proxy.specs.Passed.{World}
 use Rattle.relay_proxy.specs.Work.{added_work}
 use Rattle.relay_proxy.specs.declared.machine.Attempt.{Attempt}
 use Rattle.relay_proxy.specs.declared.machine.Phase.{Phase}
-use Rattle.relay_proxy.specs.declared.machine.Phase.TheVariants.{ReadHead, Connect, Unlinked, Prepare, Relay, Broken, Fail, Close, Answer, Ended}
+use Rattle.relay_proxy.specs.declared.machine.Phase.TheVariants.{ReadHead, Connect, Unlinked, Prepare, Relay, Broken, Again, Fail, Close, Answer, Ended}
 use Rattle.relay_proxy.specs.declared.owed.Owed.TheVariants.{Refused, Ahead, Served}
 use Rattle.relay_proxy.specs.declared.work.Work.{Work}
 
@@ -78,14 +78,15 @@ module _ {L : Type 0} (state : L → LinkState) (start_at : L → LinkStart) whe
   OwnUses n (r ∷ []) = LinkUses n r.link
   OwnUses n (r ∷ q ∷ own) = ⊥
 
-  -- all uses of a request were counted: those of the client's link, and those of its own
-  pub record CountsAll (first last : LinkState) (own : List (Returned L)) (counted : ℕ)
-      : Type 0 where
+  -- all uses of a request were counted: those of the client's link, those of its own, and so many
+  -- of links that it had before
+  pub record CountsAll (first last : LinkState) (earlier : ℕ) (own : List (Returned L))
+      (counted : ℕ) : Type 0 where
     pub client : ℕ
     pub upstream : ℕ
     pub client_rose : last.used ≡ ups client first.used
     pub upstream_rose : OwnUses upstream own
-    pub all : counted ≡ min (client + upstream) last_count
+    pub all : counted ≡ min (client + (earlier + upstream)) last_count
 
 module _ {L C : Type 0} (state : L → LinkState) (start_at : L → LinkStart) where
   -- the link of a request was asked so many times up to that phase
@@ -96,6 +97,7 @@ module _ {L C : Type 0} (state : L → LinkState) (start_at : L → LinkStart) w
   PhaseUses n own (Prepare context session link lease) = LinkUses state start_at n link
   PhaseUses n own (Relay a) = LinkUses state start_at n (link_of a.value.exchange)
   PhaseUses n own (Broken context session link lease keep error) = LinkUses state start_at n link
+  PhaseUses n own (Again context session link lease keep error) = LinkUses state start_at n link
   PhaseUses n own (Fail link lease keep session error) = LinkUses state start_at n link
   PhaseUses n own (Close link lease keep outcome) = LinkUses state start_at n link
   PhaseUses n own (Answer session owed attempts) = OwnUses state start_at n own
@@ -118,6 +120,16 @@ module _ {L C : Type 0} (state : L → LinkState) (start_at : L → LinkStart) w
     pub turn : TurnCounts n client client' used own next
     pub adds : after ≡ min (before + used) last_count
 
+module _ {L : Type 0} (state : L → LinkState) (start_at : L → LinkStart) where
+  -- the same of a step that handed this link back, which had been asked n times before
+  pub record LinkCounts (n : ℕ) (client client' : LinkState) (before after : ℕ) (link : L)
+      : Type 0 where
+    pub of_client : ℕ
+    pub of_own : ℕ
+    pub client_rose : client'.used ≡ ups of_client client.used
+    pub own_rose : LinkUses state start_at (of_own + n) link
+    pub adds : after ≡ min (before + (of_client + of_own)) last_count
+
 -- ---- what moved in an exchange
 
 -- hooks or an attempt ended the request, and its client is owed an answer, or what was queued for
@@ -129,6 +141,7 @@ OwesAnswer (Unlinked context session attempts error) = Unit {0}
 OwesAnswer (Prepare context session link lease) = ⊥
 OwesAnswer (Relay a) = ⊥
 OwesAnswer (Broken context session link lease keep error) = Unit {0}
+OwesAnswer (Again context session link lease keep error) = ⊥
 OwesAnswer (Fail link lease keep session error) = Unit {0}
 OwesAnswer (Close link lease keep outcome) = ⊥
 OwesAnswer (Answer session (Refused error) attempts) = ⊥

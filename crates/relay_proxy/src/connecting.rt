@@ -327,7 +327,7 @@ fn go_on<M: HttpModule + Drop, K: Drop, L, C: Drop>(
 }
 
 /// Whether a further attempt may be made behind so many, the last of which failed with that error.
-fn may_try(most: usize, made: usize, error: &Error) -> bool
+pub(crate) fn may_try(most: usize, made: usize, error: &Error) -> bool
     ensures { IsTrue result ↔ MayTry most made error.now }
 {
     error.retry() && made < most

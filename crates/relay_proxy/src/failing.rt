@@ -1,20 +1,24 @@
-//! An attempt that failed: the application treats its error, and then answers the client for what
-//! it made of it (RFC 9110, sections 9.2.2 and 15).
-ghost use Rattle.std.specs.Prelude.{◌≡◌, ◌⊎◌, ◌≤◌, [], ◌∷◌, ℕ, None, Some, true};
+//! An attempt that failed: the application treats its error; and then another attempt follows, or
+//! the application answers the client for what it made of it (RFC 9110, sections 9.2.2 and 15).
+ghost use Rattle.std.specs.Prelude.{◌≡◌, ◌⊎◌, ◌+◌, ◌≤◌, [], ◌∷◌, length, ℕ, None, Some, true};
+ghost use Rattle.relay_tasks.specs.Error.{may_retry};
+ghost use Rattle.relay_session.specs.Session.{is_as_begun};
 ghost use Rattle.relay_attempt.specs.Passed.{Passed};
 ghost use Rattle.relay_proxy.specs.Bound.{CountsTreat, LeavesLink};
 ghost use Rattle.relay_proxy.specs.Calls.{CallsSoFar, CountsCalls, IsUnended, Owing, allowed_by, log_of, treated_at};
 ghost use Rattle.relay_proxy.specs.Leaving.{Answers};
+ghost use Rattle.relay_proxy.specs.Legs.{RepeatsOn};
 ghost use Rattle.relay_proxy.specs.Passed.{World, Start, called_to, opened_to};
 ghost use Rattle.relay_proxy.specs.Phases.{RunSoFar};
 ghost use Rattle.relay_proxy.specs.Refusals.{attempts_in};
 ghost use Rattle.relay_proxy.specs.Relaying.{is_closing};
 ghost use Rattle.relay_proxy.specs.Stock.{items_held};
-ghost use Rattle.relay_proxy.specs.Tries.{tries_in};
+ghost use Rattle.relay_proxy.specs.Tries.{MayTry, tries_in};
 ghost use Rattle.relay_proxy.specs.Uses.{LinkUses, OwesAnswer, PhaseUses};
 ghost use Rattle.relay_proxy.specs.Turn.{DoesWork, held_state, is_over, is_end, links_held, Advances, HasCause};
 
-use crate::calls::{Calls, answer_error, treat};
+use crate::calls::{Calls, Opened, answer_error, call_next, treat};
+use crate::connecting::may_try;
 use crate::machine::{Lease, Next, Phase, RunStep};
 use crate::outcome::Outcome;
 use crate::owed::Owed;
@@ -25,10 +29,13 @@ use relay_links::ByteLink;
 use relay_session::HttpSession;
 use relay_tasks::Error;
 
-/// The turn of an attempt that failed with that error: the application treats it, or, where it was
-/// treated, answers the client for it. Its link is to go back then.
+/// The turn of an attempt that failed with that error: the application treats it. Where it was
+/// treated another attempt follows, where one may: the error is marked so, the request has made less
+/// attempts than `most`, and its session stands as it did behind its head. Else the application
+/// answers the client. The link is to go back then.
 pub(crate) fn fail<SV: ProxyHttp, L: ByteLink>(
     app: &SV,
+    most: usize,
     calls: &mut Calls<SV::Modules, SV::Kept, SV::CTX>,
     context: SV::CTX,
     session: Box<HttpSession>,
@@ -37,12 +44,13 @@ pub(crate) fn fail<SV: ProxyHttp, L: ByteLink>(
     keep: bool,
     error: Error,
 ) -> Next<L, SV::CTX>
-    ensures run { (s : Start) (p : Passed) (w : World)
+    ensures run { (s : Start) (p : Passed) (w : World) → s.most ≡ most
         → CallsSoFar {L = L} (allowed_by (SV.allows app.now) SV.Modules.allows)
         (SV.mark_of app.now) calls.old (Phase.Broken context session link lease keep error)
         → RunSoFar {C = SV.CTX} L.state L.start (called_to s (log_of calls.old)) p w []
         (Phase.Broken context session link lease keep error)
-        → Advances {C = SV.CTX} L.state L.start (called_to s (log_of calls.new)) w result.phase }
+        → Advances {C = SV.CTX} L.state L.start (called_to s (log_of calls.new)) w result.phase
+        ⊎ RepeatsOn {C = SV.CTX} L.state L.start (called_to s (log_of calls.new)) w result.phase }
     ensures calls { CallsSoFar {L = L} (allowed_by (SV.allows app.now) SV.Modules.allows)
         (SV.mark_of app.now) calls.old (Phase.Broken context session link lease keep error)
         → CallsSoFar {L = L} (allowed_by (SV.allows app.now) SV.Modules.allows)
@@ -66,9 +74,71 @@ pub(crate) fn fail<SV: ProxyHttp, L: ByteLink>(
     match calls.treated() {
         None => treat_broken(app, calls, context, session, link, lease, keep, error),
         Some(treated) => {
+            if may_try(most, lease.room.made(), &treated) && session.is_as_begun() {
+                return repeat(app, calls, context, session, link, lease, keep, error, treated);
+            }
             answer_broken(
                 app, calls, context, session, link, lease, keep, error, treated,
             )
+        }
+    }
+}
+
+/// Another attempt follows the one that failed with that error, as it was treated: the application
+/// is asked whether its warning is not to be written. The link is to go back then.
+fn repeat<SV: ProxyHttp, L: ByteLink>(
+    app: &SV,
+    calls: &mut Calls<SV::Modules, SV::Kept, SV::CTX>,
+    context: SV::CTX,
+    session: Box<HttpSession>,
+    link: L,
+    lease: Lease,
+    keep: bool,
+    error: Error,
+    treated: Error,
+) -> Next<L, SV::CTX>
+    requires treated { treated_at calls.old.at ≡ Some treated }
+    requires begun { is_as_begun session.value ≡ true }
+    ensures run { (s : Start) (p : Passed) (w : World)
+        → MayTry s.most (1 + length (tries_in lease)) treated
+        → CallsSoFar {L = L} (allowed_by (SV.allows app.now) SV.Modules.allows)
+        (SV.mark_of app.now) calls.old (Phase.Broken context session link lease keep error)
+        → RunSoFar {C = SV.CTX} L.state L.start (called_to s (log_of calls.old)) p w []
+        (Phase.Broken context session link lease keep error)
+        → Advances {C = SV.CTX} L.state L.start (called_to s (log_of calls.new)) w result.phase
+        ⊎ RepeatsOn {C = SV.CTX} L.state L.start (called_to s (log_of calls.new)) w result.phase }
+    ensures calls { may_retry treated.retry ≡ true
+        → CallsSoFar {L = L} (allowed_by (SV.allows app.now) SV.Modules.allows)
+        (SV.mark_of app.now) calls.old (Phase.Broken context session link lease keep error)
+        → CallsSoFar {L = L} (allowed_by (SV.allows app.now) SV.Modules.allows)
+        (SV.mark_of app.now) calls.new result.phase }
+    ensures cause { (w x : World) → HasCause L.state L.start w x
+        (Phase.Broken context session link lease keep error) result.phase result.step }
+    ensures work { DoesWork result.step result.work }
+    ensures called { CountsCalls calls.old calls.new result.work }
+    ensures counts { CountsTreat (tries_in lease) result.phase result.work }
+    ensures leaves { LeavesLink link lease result.phase }
+    ensures unused { result.work.used ≡ 0 }
+    ensures step { (result.step ≡ RunStep.Moved) ⊎ (result.step ≡ RunStep.Ended) }
+    ensures over { is_over result.phase ≡ is_end result.step }
+    ensures held { held_state L.state result.phase ≡ Some (L.state link) }
+    ensures tries { attempts_in result.phase ≡ tries_in lease }
+    ensures linked { links_held L.state L.start result.phase ≡ 1 }
+    ensures items { items_held L.start result.phase ≡ (L.start link).items ∷ [] }
+    ensures asked { (n : ℕ) → LinkUses L.state L.start n link
+        → PhaseUses L.state L.start n [] result.phase }
+{
+    let mut context = context;
+    let mut session = session;
+    calls.repeat(treated);
+    match call_next(app, calls, &mut context, &mut session) {
+        Opened::GoesOn => Next {
+            phase: Phase::Again(context, session, link, lease, keep, treated),
+            step: RunStep::Moved,
+            work: Work::CALLED,
+        },
+        Opened::Answered | Opened::Purges | Opened::OutOfMemory => {
+            closed(link, lease, false, Outcome::OutOfMemory)
         }
     }
 }

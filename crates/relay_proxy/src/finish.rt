@@ -56,7 +56,7 @@ fn release<K: Connector>(
 }
 
 /// Ends a request that is to be closed: its link goes back. That of a failed attempt goes back too,
-/// and the client is given what it is owed. Any other phase stays.
+/// and another one follows, or the client is given what it is owed. Any other phase stays.
 pub(crate) fn settle<K: Connector, C: Drop>(connector: &mut K, phase: &mut Phase<K::Byte, C>)
     requires { links_held K.Byte.state K.Byte.start phase.old ≤ K.out connector.old }
     ensures settles { Settles phase.old (K.returned connector.old) (K.returned connector.new)
@@ -77,7 +77,8 @@ pub(crate) fn settle<K: Connector, C: Drop>(connector: &mut K, phase: &mut Phase
     }
 }
 
-/// Ends a request that is to be closed, or goes on to what its client is owed: its link goes back.
+/// Ends a request that is to be closed, or goes on to another attempt or to what its client is owed:
+/// its link goes back.
 fn close<K: Connector, C: Drop>(connector: &mut K, phase: &mut Phase<K::Byte, C>)
     requires closing { is_closing phase.old ≡ true }
     requires held { links_held K.Byte.state K.Byte.start phase.old ≤ K.out connector.old }
@@ -98,6 +99,11 @@ fn close<K: Connector, C: Drop>(connector: &mut K, phase: &mut Phase<K::Byte, C>
         Phase::Close(link, lease, keep, outcome) => {
             let attempts = release(connector, link, lease, keep, outcome);
             phase.put(Phase::Ended(outcome, attempts));
+        }
+        Phase::Again(context, session, link, lease, keep, error) => {
+            let outcome = Owed::Served(error).outcome();
+            let attempts = release(connector, link, lease, keep, outcome);
+            phase.put(Phase::Connect(context, session, attempts));
         }
         Phase::Fail(link, lease, keep, session, error) => {
             let owed = Owed::Served(error);
@@ -177,6 +183,9 @@ pub(crate) fn finish<K: Connector, C: Drop>(
             give_link_up(connector, exchange.into_link(), lease)
         }
         Phase::Broken(_context, _session, link, lease, _keep, _error) => {
+            give_link_up(connector, link, lease)
+        }
+        Phase::Again(_context, _session, link, lease, _keep, _error) => {
             give_link_up(connector, link, lease)
         }
         Phase::Fail(link, lease, keep, _session, error) => Ending {

@@ -9,6 +9,7 @@
 //!    |         +-> Unlinked -> Answer -> Ended (no link was given, and none is asked for again)
 //!    |         +-> Broken (a hook failed that was told of the link)
 //!    |                 +-> Fail -> Answer -> Ended (the application treated the error)
+//!    |                 +-> Again -> Connect (and another attempt follows)
 //!    +-> Answer -> Ended (the head was turned down)
 //!    +-> Ended (nothing asked, nothing relayed)
 //! ```
@@ -76,6 +77,9 @@ pub(crate) enum Phase<L, C> {
     /// is kept then or not.
     Broken(C, Box<HttpSession>, L, Lease, bool, Error),
     /// The error of the attempt was treated, and is that one: its link is to be handed back with
+    /// that mark, and another attempt follows.
+    Again(C, Box<HttpSession>, L, Lease, bool, Error),
+    /// The error of the attempt was treated, and is that one: its link is to be handed back with
     /// that mark, and what waits in the session is to be written.
     Fail(L, Lease, bool, Box<HttpSession>, Error),
     /// The request has ended, and its link is to be handed back.
@@ -116,7 +120,7 @@ impl<L, C> Phase<L, C> {
             Phase::ReadHead => true,
             Phase::Connect(_, _, _) | Phase::Unlinked(_, _, _, _) => false,
             Phase::Prepare(_, _, _, _) | Phase::Relay(_) => false,
-            Phase::Broken(_, _, _, _, _, _) => false,
+            Phase::Broken(_, _, _, _, _, _) | Phase::Again(_, _, _, _, _, _) => false,
             Phase::Fail(_, _, _, _, _) | Phase::Close(_, _, _, _) => false,
             Phase::Answer(_, _, _) | Phase::Ended(_, _) => false,
         }
@@ -130,6 +134,7 @@ impl<L, C> Phase<L, C> {
             Phase::Relay(_) => true,
             Phase::ReadHead | Phase::Connect(_, _, _) | Phase::Prepare(_, _, _, _) => false,
             Phase::Unlinked(_, _, _, _) | Phase::Broken(_, _, _, _, _, _) => false,
+            Phase::Again(_, _, _, _, _, _) => false,
             Phase::Fail(_, _, _, _, _) | Phase::Close(_, _, _, _) => false,
             Phase::Answer(_, _, _) | Phase::Ended(_, _) => false,
         }
@@ -140,6 +145,7 @@ impl<L, C> Phase<L, C> {
         ensures { result ≡ is_closing self.now }
     {
         match self {
+            Phase::Again(_, _, _, _, _, _) => true,
             Phase::Fail(_, _, _, _, _) | Phase::Close(_, _, _, _) => true,
             Phase::ReadHead | Phase::Connect(_, _, _) | Phase::Prepare(_, _, _, _) => false,
             Phase::Relay(_) | Phase::Broken(_, _, _, _, _, _) => false,
@@ -155,6 +161,7 @@ impl<L, C> Phase<L, C> {
             Phase::Close(_, _, _, _) | Phase::Ended(_, _) => true,
             Phase::ReadHead | Phase::Connect(_, _, _) | Phase::Prepare(_, _, _, _) => false,
             Phase::Relay(_) | Phase::Broken(_, _, _, _, _, _) => false,
+            Phase::Again(_, _, _, _, _, _) => false,
             Phase::Fail(_, _, _, _, _) | Phase::Answer(_, _, _) => false,
             Phase::Unlinked(_, _, _, _) => false,
         }
@@ -170,6 +177,7 @@ impl<L, C> Phase<L, C> {
             Phase::Ended(Outcome::TurnLimit | Outcome::OutOfMemory, _) => None,
             Phase::ReadHead | Phase::Connect(_, _, _) | Phase::Prepare(_, _, _, _) => None,
             Phase::Relay(_) | Phase::Broken(_, _, _, _, _, _) => None,
+            Phase::Again(_, _, _, _, _, _) => None,
             Phase::Fail(_, _, _, _, _) | Phase::Close(_, _, _, _) | Phase::Answer(_, _, _) => None,
             Phase::Unlinked(_, _, _, _) => None,
         }
@@ -188,6 +196,7 @@ impl<L, C> Phase<L, C> {
             Phase::Unlinked(_context, _session, _attempts, _error) => unreachable!(),
             Phase::Prepare(_context, _session, _link, _lease) => unreachable!(),
             Phase::Broken(_context, _session, _link, _lease, _keep, _error) => unreachable!(),
+            Phase::Again(_context, _session, _link, _lease, _keep, _error) => unreachable!(),
             Phase::Fail(_link, _lease, _keep, _session, _error) => unreachable!(),
             Phase::Close(_link, _lease, _keep, _outcome) => unreachable!(),
             Phase::Answer(_session, _owed, _attempts) => unreachable!(),
@@ -207,6 +216,7 @@ impl<L, C> Phase<L, C> {
             Phase::Prepare(_context, _session, _link, _lease) => unreachable!(),
             Phase::Relay(_attempt) => unreachable!(),
             Phase::Broken(_context, _session, _link, _lease, _keep, _error) => unreachable!(),
+            Phase::Again(_context, _session, _link, _lease, _keep, _error) => unreachable!(),
             Phase::Fail(_link, _lease, _keep, _session, _error) => unreachable!(),
             Phase::Close(_link, _lease, _keep, _outcome) => unreachable!(),
             Phase::Answer(_session, _owed, _attempts) => unreachable!(),

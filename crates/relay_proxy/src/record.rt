@@ -103,6 +103,13 @@ impl AttemptRoom {
         AttemptList { items: self.items }
     }
 
+    /// How many attempts there are with this one.
+    pub(crate) fn made(&self) -> usize
+        ensures { result ≡ 1 + length self.now.items.items }
+    {
+        self.items.len() + 1
+    }
+
     /// The attempts so far, and this one.
     pub(crate) fn fill(self, attempt: AttemptRecord) -> AttemptList
         ensures { result ≡ self.items.items ++ attempt ∷ [] }

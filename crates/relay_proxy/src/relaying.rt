@@ -177,8 +177,8 @@ fn leave_failed<L: ByteLink, C: Drop>(
         → phase.old ≡ Phase.Relay a → TellsClient s p w
         → let link = link_of a.value.exchange in
         IsLeased s p (L.state link) (L.start link) a.value.lease
-        → LeavesBy s p w.client (L.state link) (L.start link) a.value.exchange.exchange.down.session
-        why → Advances {C = C} L.state L.start s w phase.new }
+        → LeavesBy s p w.client w.ahead (L.state link) (L.start link)
+        a.value.exchange.exchange.down.session why → Advances {C = C} L.state L.start s w phase.new }
     ensures calls { (a : Box (Attempt L C)) → phase.old ≡ Phase.Relay a
         → BreaksOff a.value.context a.value.exchange.exchange.down.session phase.new }
     ensures owes { result.step ≡ RunStep.Moved → OwesAnswer phase.new }
@@ -221,7 +221,7 @@ fn leave<L: ByteLink, C: Drop>(
 ) -> Next<L, C>
     ensures run { (s : Start) (p : Passed) (w : World) → TellsClient s p w
         → IsLeased s p (L.state link) (L.start link) lease
-        → LeavesBy s p w.client (L.state link) (L.start link) session why
+        → LeavesBy s p w.client w.ahead (L.state link) (L.start link) session why
         → Advances {C = C} L.state L.start s w result.phase }
     ensures calls { BreaksOff context session result.phase }
     ensures owes { result.step ≡ RunStep.Moved → OwesAnswer result.phase }
@@ -254,7 +254,7 @@ fn break_off<L: ByteLink, C: Drop>(
 ) -> Next<L, C>
     ensures run { (s : Start) (p : Passed) (w : World) → TellsClient s p w
         → IsLeased s p (L.state link) (L.start link) lease
-        → LeavesSession s p w.client (L.state link) (L.start link) session error
+        → LeavesSession s p w.client w.ahead (L.state link) (L.start link) session error
         → Advances {C = C} L.state L.start s w result.phase }
     ensures calls { BreaksOff context session result.phase }
     ensures owes { result.step ≡ RunStep.Moved → OwesAnswer result.phase }
@@ -314,6 +314,7 @@ fn turn_within<D: ByteLink, U: Drop, L: ByteLink, H: Schedule, C>(
         Phase::Unlinked(_, _, _, _) => unreachable!(),
         Phase::Prepare(_, _, _, _) => unreachable!(),
         Phase::Broken(_, _, _, _, _, _) => unreachable!(),
+        Phase::Again(_, _, _, _, _, _) => unreachable!(),
         Phase::Fail(_, _, _, _, _) => unreachable!(),
         Phase::Close(_, _, _, _) => unreachable!(),
         Phase::Answer(_, _, _) => unreachable!(),

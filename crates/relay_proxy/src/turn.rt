@@ -218,8 +218,15 @@ fn move_on<SV: ProxyHttp, K: Connector, D: ByteLink, U: Drop>(
         }
         Phase::Relay(_attempt) => unreachable!(),
         Phase::Broken(context, session, link, lease, keep, error) => {
-            phase.go_on(fail(hooks, calls, context, session, link, lease, keep, error))
+            phase.go_on(fail(
+                hooks, most, calls, context, session, link, lease, keep, error,
+            ))
         }
+        Phase::Again(context, session, link, lease, keep, error) => phase.go_on(Next {
+            phase: Phase::Again(context, session, link, lease, keep, error),
+            step: RunStep::Moved,
+            work: Work::ENDED,
+        }),
         Phase::Fail(link, lease, keep, session, error) => phase.go_on(Next {
             phase: Phase::Fail(link, lease, keep, session, error),
             step: RunStep::Moved,
