@@ -510,7 +510,7 @@ module _ {C M K : Type 0} (allows : Standing → LogEntry → Type 0) (mark_of :
     pub order : Accepts accepted (log_of calls) at
     pub breaks : BreaksAt calls.at (log_of calls) error at
     -- where its error was treated, and may be tried again as far as the log tells
-    pub again : (treated : Error) → calls.at ≡ at.Treated treated
+    pub again : (treated : Error) → treated_at calls.at ≡ Some treated
         → may_retry treated.retry ≡ true → has_head client.writing.place ≡ false
         → at ≡ station.repeatable
     pub unended : IsUnended (log_of calls)

@@ -1,6 +1,6 @@
 -- The attempts of a request that had a link, failed, and were tried again: what passed in each, and
 -- where the next one begins (RFC 9110, section 9.2.2).
-use Rattle.std.specs.Prelude.{◌≡◌, ◌+◌, ℕ, Bool, true, false, List, [], ◌∷◌, ◌++◌, concat, drop, length, map, None, Some, Ok, Err}
+use Rattle.std.specs.Prelude.{◌≡◌, ◌+◌, ℕ, Bool, true, false, List, [], ◌∷◌, ◌++◌, drop, length, map, None, Some, Ok, Err}
 use Rattle.std.specs.Global.{Box}
 use Rattle.relay_tasks.specs.Head.{RequestHead}
 use Rattle.relay_tasks.specs.declared.Error.{Error}
@@ -132,7 +132,8 @@ taken_in start leg = drop (length (faults_told leg.start.tried)) (taken_to start
 
 -- and in all of them
 abbrev pub taken_by : {L : Type 0} → (L → LinkStart) → List (Leg L) → List Offer
-taken_by start legs = concat (map (taken_in start) legs)
+taken_by start [] = []
+taken_by start (leg ∷ legs) = taken_in start leg ++ taken_by start legs
 
 -- ---- the turn
 
