@@ -2,6 +2,7 @@
 --
 --   other_call         a call of another hook is none of that one
 --   untreated_more     no error was treated by a call of another hook
+--   untreated_again    nor is one left behind which another attempt follows
 --   unended_more       no end was begun by a call of a hook with which none begins
 --   still_open, ends_with
 --                      the start, where the end has not begun, and where it has
@@ -9,7 +10,7 @@
 --   filters_on .. refuses_on, sends_on
 --                      what the log told of the head that is sent, behind one treatment more
 --   treats_last        the last call treated that error
-use Rattle.std.proofs.Common.{◌≡◌, Bool, true, false, ◌||◌, ◌&&◌, List, [], ◌∷◌, ◌++◌, refl, sym, ap, subst, ◌∙◌, true≢false, append-nil, append_assoc}
+use Rattle.std.proofs.Common.{◌≡◌, Bool, true, false, not, ◌||◌, ◌&&◌, List, [], ◌∷◌, ◌++◌, refl, sym, ap, subst, ◌∙◌, true≢false, append-nil, append_assoc}
 use Rattle.std.proofs.lemmas.List.Folds.{list_any-append}
 use Rattle.std.specs.List.{list_any}
 use Rattle.std.specs.Prelude.{if◌then◌else◌}
@@ -24,7 +25,7 @@ use Rattle.relay_phases.specs.Order.{Station, Accepts, accepted}
 use Rattle.relay_proxy.specs.Ahead.{LetsGo, goes_on}
 use Rattle.relay_proxy.specs.Calls.{IsUnended}
 use Rattle.relay_proxy.specs.Passed.{Start, before_end, begins_end, answer_in, called_to, closed_to, opened_to}
-use Rattle.relay_proxy.specs.Sent.{FailsAt, Filters, IsTreated, IsUntreated, RefusesToSend, Sends, is_of, only_treats}
+use Rattle.relay_proxy.specs.Sent.{FailsAt, Filters, IsTreated, IsUntreated, RefusesToSend, Sends, is_of, leaves_treated, only_treats, treated_from}
 
 -- a call of another hook is none of that one
 pub other_call : (asked : Hook) (e : LogEntry) (which : Hook) → e.hook ≡ which
@@ -39,13 +40,36 @@ any_more asked (x ∷ es) e other none =
     list_any-append (is_of asked) (x ∷ es) (e ∷ [])
     ∙ rw (none, other) refl
 
+-- whether an error was treated last, of calls one behind the other
+treated_join : (left : Bool) (es fs : List LogEntry)
+    → treated_from left (es ++ fs) ≡ treated_from (treated_from left es) fs
+treated_join left [] fs = refl
+treated_join left (e ∷ es) fs = treated_join (leaves_treated left e) es fs
+
 -- no error was treated by a call of another hook
 pub untreated_more : (these those : List LogEntry) (e : LogEntry) (which : Hook)
     → those ≡ these ++ e ∷ [] → e.hook ≡ which → same_hook hook.ErrorWhileProxy which ≡ false
     → IsUntreated these → IsUntreated those
 untreated_more these those e which more is other none =
     subst (λ (l : List LogEntry). IsUntreated l) (sym more)
-    (any_more hook.ErrorWhileProxy these e (other_call hook.ErrorWhileProxy e which is other) none)
+    (treated_join false these (e ∷ [])
+    ∙ ap (λ (b : Bool). leaves_treated b e) none
+    ∙ ap (λ (b : Bool). b || false) (other_call hook.ErrorWhileProxy e which is other))
+
+-- and none is left behind which another attempt follows
+pub untreated_again : (these those : List LogEntry) (e : LogEntry) → those ≡ these ++ e ∷ []
+    → e.hook ≡ hook.SuppressProxyWarnLog → IsUntreated those
+untreated_again these those e more is =
+    subst (λ (l : List LogEntry). IsUntreated l) (sym more)
+    (treated_join false these (e ∷ [])
+    ∙ ap (λ (b : Bool). b || (treated_from false these && not (is_of hook.SuppressProxyWarnLog e)))
+    (other_call hook.ErrorWhileProxy e hook.SuppressProxyWarnLog is refl)
+    ∙ ap (λ (h : Hook). treated_from false these && not (same_hook hook.SuppressProxyWarnLog h)) is
+    ∙ none (treated_from false these))
+  where
+    none : (b : Bool) → (b && false) ≡ false
+    none true = refl
+    none false = refl
 
 -- a call of a hook with which no end begins begins none
 pub unended_more : (these those : List LogEntry) (e : LogEntry) (which : Hook)
@@ -128,25 +152,35 @@ pub record LetsAt (called : List LogEntry) : Type 0 where
   pub order : Accepts accepted called at
   pub goes : goes_on at ≡ true
 
-only_none : (es : List LogEntry) → only_treats es ≡ true
-    → list_any (is_of hook.ErrorWhileProxy) es ≡ false → es ≡ []
-only_none [] only none = refl
-only_none (e ∷ es) only none = absurd (first (is_of hook.ErrorWhileProxy e) only none)
+-- treatments alone leave an error that was treated
+treats_leave : (left : Bool) (e : LogEntry) (es : List LogEntry) → only_treats (e ∷ es) ≡ true
+    → treated_from left (e ∷ es) ≡ true
+treats_leave left e [] only =
+    first (is_of hook.ErrorWhileProxy e) (left && not (is_of hook.SuppressProxyWarnLog e)) only
   where
-    first : (b : Bool) → (b && only_treats es) ≡ true
-        → (b || list_any (is_of hook.ErrorWhileProxy) es) ≡ false → ⊥
-    first true is none = true≢false none
-    first false is none = true≢false (sym is)
+    first : (b c : Bool) → (b && true) ≡ true → (b || c) ≡ true
+    first true c so = refl
+    first false c so = absurd (true≢false (sym so))
+treats_leave left e (x ∷ es) only =
+    treats_leave (leaves_treated left e) x es (second (is_of hook.ErrorWhileProxy e) _ only)
+  where
+    second : (b c : Bool) → (b && c) ≡ true → c ≡ true
+    second true c so = so
+    second false c so = absurd (true≢false (sym so))
+
+only_none : (left : Bool) (es : List LogEntry) → only_treats es ≡ true
+    → treated_from left es ≡ false → es ≡ []
+only_none left [] only none = refl
+only_none left (e ∷ es) only none =
+    absurd (true≢false (sym (treats_leave left e es only) ∙ none))
 
 pub lets_at : (called : List LogEntry) → LetsGo called → IsUntreated called → LetsAt called
 lets_at called lets none =
-    let parts : (list_any (is_of hook.ErrorWhileProxy) lets.before
-    || list_any (is_of hook.ErrorWhileProxy) lets.after) ≡ false =
-    sym (list_any-append (is_of hook.ErrorWhileProxy) lets.before lets.after)
-    ∙ ap (λ (l : List LogEntry). list_any (is_of hook.ErrorWhileProxy) l) (sym lets.called_are)
-    ∙ none in
+    let parts : treated_from (treated_from false lets.before) lets.after ≡ false =
+    sym (treated_join false lets.before lets.after)
+    ∙ ap (λ (l : List LogEntry). treated_from false l) (sym lets.called_are) ∙ none in
     let bare : lets.after ≡ [] =
-    only_none lets.after lets.treats (second _ _ parts) in
+    only_none (treated_from false lets.before) lets.after lets.treats parts in
     record {
       at = lets.at;
       order = subst (λ (l : List LogEntry). Accepts accepted l lets.at)
@@ -155,10 +189,6 @@ lets_at called lets none =
           lets.order;
       goes = lets.goes;
     }
-  where
-    second : (a b : Bool) → (a || b) ≡ false → b ≡ false
-    second true b is = absurd (true≢false is)
-    second false b is = is
 
 -- ---- behind one treatment more
 
