@@ -607,7 +607,8 @@ module _ {L C : Type 0} (state : L → LinkState) (start_at : L → LinkStart) w
                 (ahead ∙ ap (λ (xs : List ℕ). drop len xs) run.holds.whole) behind);
             written = run.holds.written;
             unsent = run.holds.unsent;
-            are_tries = no_tries (opened_to s (log_of d)) tries none
+            are_tries = no_tries (opened_to s (log_of d)) tries run.holds.untried.0
+                run.holds.untried.1 none
                 (lone_untold (log_of d)
                 (one ∙ ap (λ (l : List LogEntry). length l + 1) no_log));
           };
