@@ -217,6 +217,7 @@ one_called old new work once e is =
     record {
       counted = omega (arith, once, more);
       once = omega (arith, more);
+      grows = record { rest = e ∷ []; joined = sym is };
     }
 
 -- or it is the same
@@ -227,6 +228,7 @@ none_called old new work none is =
     record {
       counted = omega (arith, none, same);
       once = omega (arith, same);
+      grows = record { rest = []; joined = append-nil (log_of old) ∙ sym is };
     }
 
 -- ---- where an error may be treated

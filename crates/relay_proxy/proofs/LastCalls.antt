@@ -480,7 +480,11 @@ pub counted_still : {M K X : Type 0} (old mid new : Calls M K X) (work : Work)
     → log_of new ≡ log_of mid → CountsCalls old mid work → CountsCalls old new work
 counted_still old mid new work same counts =
     let long = ap (λ (l : List LogEntry). length l) same in
-    record { counted = omega (arith, counts.counted, long); once = omega (arith, counts.once, long) }
+    record {
+      counted = omega (arith, counts.counted, long);
+      once = omega (arith, counts.once, long);
+      grows = record { rest = counts.grows.rest; joined = counts.grows.joined ∙ sym same };
+    }
 
 -- ---- where the end begins
 

@@ -28,6 +28,7 @@ use Rattle.relay_opening.specs.declared.place.Called.TheVariants as called
 use Rattle.relay_opening.specs.declared.place.End.TheVariants as end
 use Rattle.relay_opening.specs.declared.place.Place.{Place}
 use Rattle.relay_opening.specs.declared.place.Place.TheVariants as place
+use Rattle.relay_peer.specs.Body.{IsFrontOf}
 use Rattle.relay_trying.specs.Trying.{may_break}
 use Rattle.relay_closing.specs.Closes.{TurnsOn, logged_in, logged_to}
 use Rattle.relay_closing.specs.Place.{begins_at, begun, is_lost, may_begin, may_fail}
@@ -736,11 +737,12 @@ last_of phase here = last_from (goes_back_in phase) here
 abbrev pub is_ending : {L C K X : Type 0} → Phase L C → At K X → Bool
 is_ending phase here = is_some (last_of phase here)
 
--- what a turn counts of calls: the entries that it added to the log, of which there is one at most;
--- a call that is out of memory has none
+-- what a turn counts of calls: the entries that it added to the log, of which there is one at most,
+-- behind those that stood there; a call that is out of memory has none
 pub record CountsCalls {M K X : Type 0} (old new : Calls M K X) (work : Work) : Type 0 where
   pub counted : work.called + length (log_of old) ≤ length (log_of new)
   pub once : length (log_of new) ≤ 1 + length (log_of old)
+  pub grows : IsFrontOf (log_of old) (log_of new)
 
 -- what a turn counts that calls a hook of the end: the call, and nothing else
 pub record CountsLast {L C M K X : Type 0} (old new : Calls M K X) (was now : Machine L C)

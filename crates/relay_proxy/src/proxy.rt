@@ -3,6 +3,7 @@ ghost use Rattle.std.specs.Prelude.{◌≡◌, ◌⊎◌, ◌+◌, ◌≤◌, �
 ghost use Rattle.std.specs.Global.{Box};
 ghost use Rattle.relay_links.specs.Count.{Rose};
 ghost use Rattle.relay_links.specs.Link.{LinkState};
+ghost use Rattle.relay_peer.specs.Body.{IsFrontOf};
 ghost use Rattle.relay_attempt.specs.Passed.{Passed};
 ghost use Rattle.relay_proxy.specs.Bound.{PhaseCounts};
 ghost use Rattle.relay_phases.specs.Order.{Station};
@@ -245,6 +246,7 @@ impl<SV: ProxyHttp, K: Connector, P: Purger> HttpProxy<SV, K, P> {
             → machine.new.machine.work.called ≤ length (log_of machine.new.calls) }
         ensures once { length (log_of machine.new.calls)
             ≤ 1 + length (log_of machine.old.calls) }
+        ensures front { IsFrontOf (log_of machine.old.calls) (log_of machine.new.calls) }
         // Before there is a link it moved something of the client, or went on to its next phase; in
         // an exchange it asked a link once, or none and it moved a task or brought an end, by the
         // branch that it took. It waits only where a link answered so in this step; and in silence
@@ -385,6 +387,7 @@ impl<SV: ProxyHttp, K: Connector, P: Purger> HttpProxy<SV, K, P> {
             → machine.new.machine.work.called ≤ length (log_of machine.new.calls) }
         ensures once { length (log_of machine.new.calls)
             ≤ 1 + length (log_of machine.old.calls) }
+        ensures front { IsFrontOf (log_of machine.old.calls) (log_of machine.new.calls) }
         // Before there is a link it moved something of the client, or went on to its next phase; in
         // an exchange it asked a link once, or none and it moved a task or brought an end, by the
         // branch that it took. It waits only where a link answered so in this step; and in silence
