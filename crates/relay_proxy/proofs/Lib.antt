@@ -21,6 +21,7 @@ pub mod TreatLemmas
 pub mod BoundLemmas
 pub mod StepLemmas
 pub mod EndSteps
+pub mod LegLemmas
 mod TakenLemmas
 mod RefusalLemmas
 mod TurnLemmas
