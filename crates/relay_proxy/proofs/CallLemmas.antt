@@ -241,6 +241,21 @@ none_called old new work none is =
       grows = record { rest = []; joined = append-nil (log_of old) ∙ sym is };
     }
 
+-- what is counted goes by the log before, too
+pub counted_from : {M K X : Type 0} (old mid new : Calls M K X) (work : Work)
+    → log_of mid ≡ log_of old → CountsCalls mid new work → CountsCalls old new work
+counted_from old mid new work same counts =
+    let long = ap (λ (l : List LogEntry). length l) same in
+    record {
+      counted = omega (arith, counts.counted, long);
+      once = omega (arith, counts.once, long);
+      grows = record {
+        rest = counts.grows.rest;
+        joined = ap (λ (l : List LogEntry). l ++ counts.grows.rest) (sym same)
+            ∙ counts.grows.joined;
+      };
+    }
+
 -- ---- where an error may be treated
 
 -- none was so far, and it may be there
@@ -266,6 +281,14 @@ may_treat at.Warning log error here none may = may
 may_treat at.Linked log error here none may = may
 may_treat (at.Treated treated) log error here none may = cc
 may_treat (at.Closing held there) log error here none may = may
+
+-- nor is there one then that may be tried again
+pub never_again : {K X : Type 0} (a : At K X) (left : HttpSession) (to : Station)
+    → treated_at a ≡ None → (treated : Error) → treated_at a ≡ Some treated
+    → may_retry treated.retry ≡ true → has_head left.writing.place ≡ false
+    → to ≡ station.repeatable
+never_again a left to untreated treated is marked open_to =
+    let clash : None ≡ Some treated = sym untreated ∙ is in cc
 
 -- where it was, the log tells of that, and it may be answered
 pub was_treated : {K X : Type 0} (a : At K X) (log : List LogEntry) (error treated : Error)
@@ -356,13 +379,6 @@ module _ {C M K : Type 0} (allows : Standing → LogEntry → Type 0) (mark_of :
   logged_same c d context client tries same o =
       subst (λ (l : List LogEntry). (at : Station) × IsLogged allows l at) (sym same)
       (opening_logged c context client tries o)
-
-  -- where no error was treated none is left that may be tried again
-  never_again : (a : At K C) (left : HttpSession) (to : Station) → treated_at a ≡ None
-      → (treated : Error) → treated_at a ≡ Some treated → may_retry treated.retry ≡ true
-      → has_head left.writing.place ≡ false → to ≡ station.repeatable
-  never_again a left to untreated treated is marked open_to =
-      let clash : None ≡ Some treated = sym untreated ∙ is in cc
 
   -- behind one call more an attempt may have failed
   pub breaks_more : (c d : Calls M K C) (context context' : C) (client left : HttpSession)
@@ -466,8 +482,25 @@ module _ {C M K : Type 0} (allows : Standing → LogEntry → Type 0) (mark_of :
         (record { from = b.from; to = _; walks = b.walks; order = b.order }),
   )
 
-  -- another attempt follows one whose error was treated and is marked so, where no final head was
-  -- queued: the hook that comes next was called, behind which the request goes on
+  -- where another attempt follows the application is asked for the warning of the error
+  pub repeats_turn : (c d : Calls M K C) (context context' : C) (client left : HttpSession)
+      (treated : Error)
+      → CallsNext allows (record c { at = at.Repeatable treated }) client (mark_of context) d left
+      (mark_of context')
+      → leads_at d.at ≡ led.GoesOn
+      → Turns allows hook.SuppressProxyWarnLog station.repeatable (station_at d.at) QueuesNothing
+      (seen_with c client) (mark_of context) (seen_with d left) (mark_of context')
+  repeats_turn c d context context' client left treated
+      (TakesNext.leads before which comes there to turn) goes = absurd (true≢false (sym before))
+  repeats_turn c d context context' client left treated (TakesNext.tried t) goes =
+      subst (λ (h : Hook). Turns allows h station.repeatable (station_at d.at) QueuesNothing
+      (seen_with c client) (mark_of context) (seen_with d left) (mark_of context'))
+      (sym (same_hooks hook.SuppressProxyWarnLog t.which t.comes)) t.turn
+  repeats_turn c d context context' client left treated (TakesNext.lost to same) goes =
+      let clash : led.OutOfMemory ≡ led.GoesOn =
+      sym (ap (λ (a : At K C). leads_at a) to) ∙ goes in cc
+
+  -- so it does behind one whose error was treated and is marked so, where no final head was queued
   pub repeats_calls : (c d : Calls M K C) (context context' : C) (client left : HttpSession)
       (tries : List AttemptRecord) (error treated : Error) → treated_at c.at ≡ Some treated
       → may_retry treated.retry ≡ true → has_head client.writing.place ≡ false
@@ -479,23 +512,22 @@ module _ {C M K : Type 0} (allows : Standing → LogEntry → Type 0) (mark_of :
       (TakesNext.leads before which comes there to turn) goes b = absurd (true≢false (sym before))
   repeats_calls c d context context' client left tries error treated is marked open_to
       (TakesNext.tried t) goes b =
-      let asks : hook.SuppressProxyWarnLog ≡ t.which = same_hooks hook.SuppressProxyWarnLog t.which t.comes in
+      let turn = repeats_turn c d context context' client left treated (TakesNext.tried t) goes in
       let here : Accepts station.accepted (log_of c) station.repeatable =
       subst (λ (x : Station). Accepts station.accepted (log_of c) x)
       (b.again treated is marked open_to) b.order in (
         record {
           from = b.from;
-          walks = walks_more c d context context' client left b.from t.turn.e t.turn.calls b.walks;
-          order = order_more c d station.repeatable (station_at d.at) t.turn.e t.turn.calls.log
-              t.turn.order here;
+          walks = walks_more c d context context' client left b.from turn.e turn.calls b.walks;
+          order = order_more c d station.repeatable (station_at d.at) turn.e turn.calls.log
+              turn.order here;
           goes = t.goes;
           named = t.tells;
           untried = λ still. absurd (true≢false (sym still ∙ t.past));
-          untreated = untreated_again (log_of c) (log_of d) t.turn.e t.turn.calls.log
-              (t.turn.hook ∙ sym asks);
-          unanswered = ap (λ (x : Writing). has_head x.place) t.turn.queued.same ∙ open_to;
-          unended = unended_more (log_of c) (log_of d) t.turn.e hook.SuppressProxyWarnLog
-              t.turn.calls.log (t.turn.hook ∙ sym asks) refl b.unended;
+          untreated = untreated_again (log_of c) (log_of d) turn.e turn.calls.log turn.hook;
+          unanswered = ap (λ (x : Writing). has_head x.place) turn.queued.same ∙ open_to;
+          unended = unended_more (log_of c) (log_of d) turn.e hook.SuppressProxyWarnLog
+              turn.calls.log turn.hook refl b.unended;
         },
         t.past,
       )

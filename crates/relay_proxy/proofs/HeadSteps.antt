@@ -290,6 +290,7 @@ module _ {L C : Type 0} (state : L → LinkState) (start_at : L → LinkStart) w
             whole = all;
             written = run.holds.written;
             unsent = record { got = run.holds.unsent.got; sent = run.holds.unsent.sent };
+            untried = run.holds.untried;
           };
         };
       }
