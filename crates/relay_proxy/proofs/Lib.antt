@@ -22,6 +22,7 @@ pub mod AgainLemmas
 pub mod BoundLemmas
 pub mod StepLemmas
 pub mod EndSteps
+pub mod LegLemmas
 mod TakenLemmas
 mod RefusalLemmas
 mod TurnLemmas
