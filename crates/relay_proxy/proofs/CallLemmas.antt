@@ -5,9 +5,10 @@
 --   unopened_calls, begun_exchange  a turn that makes no call leaves the calls so far
 --   relaying_calls                 and so does one of an exchange
 --   settled_calls                  and so does the settling of a phase
-use Rattle.std.proofs.Common.{◌≡◌, ℕ, ◌+◌, ◌≤◌, Bool, true, false, ◌&&◌, List, [], ◌∷◌, ◌++◌, length, length-append, append-nil, arith, Option, None, Some, refl, sym, ap, subst, ◌∙◌, true≢false}
+use Rattle.std.proofs.Common.{◌≡◌, ℕ, ◌+◌, ◌≤◌, Bool, true, false, not, ◌&&◌, List, [], ◌∷◌, ◌++◌, length, length-append, append-nil, arith, Option, None, Some, refl, sym, ap, subst, ◌∙◌, true≢false}
 use Rattle.std.proofs.lemmas.List.Folds.{list_any-append}
 use Rattle.std.specs.Prelude.{◌==◌, IsTrue, if◌then◌else◌, unwrap_or}
+use Rattle.relay_tasks.specs.Error.{may_retry}
 use Rattle.relay_tasks.specs.Head.{RequestHead, new_request}
 use Rattle.relay_tasks.specs.Hooks.{number_of, same_hook}
 use Rattle.relay_tasks.specs.declared.Error.{Error}
@@ -29,9 +30,8 @@ use Rattle.relay_calls.specs.Log.{Views, Walk}
 use Rattle.relay_calls.proofs.LogLemmas.{Walk-append}
 use Rattle.relay_phases.specs.Order.{Accepts, Station, came, next, well}
 use Rattle.relay_phases.specs.Order.{Station as station}
-use Rattle.relay_phases.specs.Turns.{HasCalled, QueuesNothing, Turns}
+use Rattle.relay_phases.specs.Turns.{CallsOnce, HasCalled, QueuesNothing, Turns}
 use Rattle.relay_phases.proofs.OrderLemmas.{Accepts-one}
-use Rattle.relay_phases.proofs.TurnLemmas.{HasCalled-more}
 use Rattle.relay_opening.specs.Place.{TurnAllows}
 use Rattle.relay_opening.specs.declared.place.Called.TheVariants as called
 use Rattle.relay_opening.specs.declared.place.End.{End}
@@ -41,23 +41,25 @@ use Rattle.relay_opening.specs.declared.place.Place.TheVariants as place
 use Rattle.relay_trying.specs.Trying as leads
 use Rattle.relay_trying.specs.Trying.{Treats, may_break, may_follow}
 use Rattle.relay_closing.specs.Place.{may_fail}
-use Rattle.relay_proxy.specs.Calls.{BeginsCalls, BreaksAt, CallsSoFar, CountsCalls, GoesOn, HasBegun, HasCome, IsBreaking, IsLogged, IsOpening, IsOwing, IsRelayingCalls, IsUncalled, IsUncalledEnd, IsUncalledFor, IsUnended, TellsPeer, is_calling, log_of, seen_with, station_at, treated_at}
+use Rattle.relay_proxy.specs.Calls.{BeginsCalls, BreaksAt, CallsNext, CallsSoFar, CountsCalls, GoesOn, HasBegun, HasCome, IsBreaking, IsLogged, IsOpening, IsOwing, IsRelayingCalls, IsUncalled, IsUncalledEnd, IsUncalledFor, IsUnended, TakesNext, TellsPeer, is_before, is_calling, leads_at, log_of, seen_with, station_at, treated_at}
 use Rattle.relay_proxy.specs.Closing.{Settles}
 use Rattle.relay_proxy.specs.Passed.{begins_end}
 use Rattle.relay_proxy.specs.Sent.{IsTreated, IsUntreated, is_of}
+use Rattle.relay_proxy.specs.Tries.{tries_in}
 use Rattle.relay_proxy.specs.declared.calls.At.{At}
 use Rattle.relay_proxy.specs.declared.calls.At.TheVariants as at
 use Rattle.relay_proxy.specs.declared.calls.Calls.{Calls}
+use Rattle.relay_proxy.specs.declared.calls.Opened.TheVariants as led
 use Rattle.relay_proxy.specs.declared.machine.Attempt.{Attempt}
 use Rattle.relay_proxy.specs.declared.machine.Phase.{Phase}
 use Rattle.relay_proxy.specs.declared.outcome.Outcome.{Outcome}
 use Rattle.relay_proxy.specs.declared.outcome.Outcome.TheVariants as outcome
 use Rattle.relay_proxy.specs.declared.owed.Owed.{Owed}
 use Rattle.relay_proxy.specs.declared.owed.Owed.TheVariants as owing
-use Rattle.relay_proxy.specs.declared.machine.Phase.TheVariants.{ReadHead, Connect, Unlinked, Prepare, Relay, Broken, Fail, Close, Answer, Ended}
+use Rattle.relay_proxy.specs.declared.machine.Phase.TheVariants.{ReadHead, Connect, Unlinked, Prepare, Relay, Broken, Again, Fail, Close, Answer, Ended}
 use Rattle.relay_proxy.specs.declared.record.AttemptRecord.{AttemptRecord}
 use Rattle.relay_proxy.specs.declared.work.Work.{Work}
-use Rattle.relay_proxy.proofs.TreatLemmas.{treats_last, unended_more}
+use Rattle.relay_proxy.proofs.TreatLemmas.{treats_last, unended_more, untreated_again}
 
 -- what the modules allow in a turn is allowed by modules
 pub turn_allowed : {K M : Type 0} (allows : M → ModuleCall → Type 0) (p : Place K)
@@ -207,6 +209,14 @@ walk_further allows es from mid to walks views =
     subst (λ (l : List LogEntry). Walk allows from l to) (append-nil es)
     (Walk-append allows es [] from mid to walks views)
 
+-- a log in order up to where a call may come is in order past it
+pub order_more : {M K X : Type 0} (c d : Calls M K X) (here to : Station) (e : LogEntry)
+    → log_of d ≡ log_of c ++ e ∷ [] → next here e ≡ Some to
+    → Accepts station.accepted (log_of c) here → Accepts station.accepted (log_of d) to
+order_more c d here to e more leads order =
+    subst (λ (l : List LogEntry). Accepts station.accepted l to) (sym more)
+    (Accepts-one station.accepted here to (log_of c) e order leads)
+
 -- ---- what is counted
 
 -- the log has one entry more
@@ -229,6 +239,21 @@ none_called old new work none is =
       counted = omega (arith, none, same);
       once = omega (arith, same);
       grows = record { rest = []; joined = append-nil (log_of old) ∙ sym is };
+    }
+
+-- what is counted goes by the log before, too
+pub counted_from : {M K X : Type 0} (old mid new : Calls M K X) (work : Work)
+    → log_of mid ≡ log_of old → CountsCalls mid new work → CountsCalls old new work
+counted_from old mid new work same counts =
+    let long = ap (λ (l : List LogEntry). length l) same in
+    record {
+      counted = omega (arith, counts.counted, long);
+      once = omega (arith, counts.once, long);
+      grows = record {
+        rest = counts.grows.rest;
+        joined = ap (λ (l : List LogEntry). l ++ counts.grows.rest) (sym same)
+            ∙ counts.grows.joined;
+      };
     }
 
 -- ---- where an error may be treated
@@ -257,6 +282,14 @@ may_treat at.Linked log error here none may = may
 may_treat (at.Treated treated) log error here none may = cc
 may_treat (at.Closing held there) log error here none may = may
 
+-- nor is there one then that may be tried again
+pub never_again : {K X : Type 0} (a : At K X) (left : HttpSession) (to : Station)
+    → treated_at a ≡ None → (treated : Error) → treated_at a ≡ Some treated
+    → may_retry treated.retry ≡ true → has_head left.writing.place ≡ false
+    → to ≡ station.repeatable
+never_again a left to untreated treated is marked open_to =
+    let clash : None ≡ Some treated = sym untreated ∙ is in cc
+
 -- where it was, the log tells of that, and it may be answered
 pub was_treated : {K X : Type 0} (a : At K X) (log : List LogEntry) (error treated : Error)
     (here : Station) → treated_at a ≡ Some treated → BreaksAt a log error here
@@ -277,30 +310,46 @@ may_answer : (follows : Bool) → IsTrue (may_fail (leads.treated_at follows))
 may_answer true = refl
 may_answer false = refl
 
+-- where it was marked so, and no final head was queued, another attempt may follow
+repeats_at : (treated : Error) (seen : Seen) → may_retry treated.retry ≡ true
+    → has_head seen.downstream.writing.place ≡ false
+    → leads.treated_at (may_follow treated seen) ≡ station.repeatable
+repeats_at treated seen marked open_to =
+    ap (λ (b : Bool). leads.treated_at (b && (not (has_head seen.downstream.writing.place) && true)))
+    marked
+    ∙ ap (λ (b : Bool). leads.treated_at (not b && true)) open_to
+
+same_error : (a b : Error) → Some a ≡ Some b → a ≡ b
+same_error a b is = cc
+
+same_hooks : (a b : Hook) → Some a ≡ Some b → a ≡ b
+same_hooks a b is = cc
+
 -- ---- up to the exchange
 
 module _ {C M K : Type 0} (allows : Standing → LogEntry → Type 0) (mark_of : C → ℕ) where
-  -- a call more was made
-  abbrev more_called : (c d : Calls M K C) (context context' : C) (client left : HttpSession)
-      (tries : List AttemptRecord) (which : Hook) (to : Station)
-      → Turns allows which (station_at c.at) to QueuesNothing (seen_with c client) (mark_of context)
-      (seen_with d left) (mark_of context')
-      → (o : IsOpening allows mark_of c context client tries)
-      → HasCalled allows o.first o.mark station.accepted to (λ a b wrote. Unit {0})
-      (seen_with d left) (mark_of context')
-  more_called c d context context' client left tries which to turn o =
-      HasCalled-more allows QueuesNothing QueuesNothing (λ a b wrote. Unit {0})
-      (λ a b c v w first behind. tt) o.first o.mark which station.accepted (station_at c.at) to
-      (seen_with c client) (mark_of context) (seen_with d left) (mark_of context')
-      o.so_far turn
+  -- a log that walked up to a call walks past it
+  pub walks_more : (c d : Calls M K C) (context context' : C) (client left : HttpSession)
+      (from : Standing) (e : LogEntry)
+      → CallsOnce allows (seen_with c client) (mark_of context) (seen_with d left)
+      (mark_of context') e
+      → Walk allows from (log_of c)
+      (standing None false (moment (seen_with c client) (mark_of context)))
+      → Walk allows from (log_of d)
+      (standing None false (moment (seen_with d left) (mark_of context')))
+  walks_more c d context context' client left from e call walks =
+      subst (λ (l : List LogEntry). Walk allows from l
+      (standing None false (moment (seen_with d left) (mark_of context')))) (sym call.log)
+      (Walk-append allows (log_of c) (e ∷ []) from
+      (standing None false (moment (seen_with c client) (mark_of context)))
+      (standing None false (moment (seen_with d left) (mark_of context'))) walks call.walk)
 
   -- up to the exchange the log is in order, up to where the hooks stand
   pub opening_stands : (calls : Calls M K C) (context : C) (client : HttpSession)
       (tries : List AttemptRecord) → IsOpening allows mark_of calls context client tries
       → IsLogged allows (log_of calls) (station_at calls.at)
   opening_stands calls context client tries o =
-      called_stands allows o.first (seen_with calls client) o.mark (mark_of context)
-      (station_at calls.at) QueuesNothing (log_of calls) o.none refl o.so_far
+      record { from = o.from; to = _; walks = o.walks; order = o.order }
 
   pub opening_logged : (calls : Calls M K C) (context : C) (client : HttpSession)
       (tries : List AttemptRecord) → IsOpening allows mark_of calls context client tries
@@ -315,13 +364,12 @@ module _ {C M K : Type 0} (allows : Standing → LogEntry → Type 0) (mark_of :
       → Turns allows which (station_at c.at) to queues (seen_with c client) (mark_of context)
       (seen_with d left) (mark_of context')
       → IsOpening allows mark_of c context client tries → IsLogged allows (log_of d) to
-  logged_more c d context context' client left tries which to queues turn o =
-      called_stands allows o.first (seen_with d left) o.mark (mark_of context') to
-      (λ a b wrote. Unit {0}) (log_of d) o.none refl
-      (HasCalled-more allows QueuesNothing queues (λ a b wrote. Unit {0})
-      (λ a b c v w first behind. tt) o.first o.mark which station.accepted (station_at c.at) to
-      (seen_with c client) (mark_of context) (seen_with d left) (mark_of context')
-      o.so_far turn)
+  logged_more c d context context' client left tries which to queues turn o = record {
+    from = o.from;
+    to = standing None false (moment (seen_with d left) (mark_of context'));
+    walks = walks_more c d context context' client left o.from turn.e turn.calls o.walks;
+    order = order_more c d (station_at c.at) to turn.e turn.calls.log turn.order o.order;
+  }
 
   -- and behind none it is as it was
   pub logged_same : (c d : Calls M K C) (context : C) (client : HttpSession)
@@ -340,21 +388,16 @@ module _ {C M K : Type 0} (allows : Standing → LogEntry → Type 0) (mark_of :
       (seen_with d left) (mark_of context')
       → IsOpening allows mark_of c context client tries
       → IsBreaking allows mark_of d context' left error
-  breaks_more c d context context' client left tries which to error untreated before may turn o =
-      let h = more_called c d context context' client left tries which to turn o in
-      record {
-        from = standing None false (moment o.first o.mark);
-        walks = subst (λ (l : List LogEntry). Walk allows
-            (standing None false (moment o.first o.mark)) l
-            (standing None false (moment (seen_with d left) (mark_of context'))))
-            (all_entries o.first (seen_with d left) h.entries o.none h.log) h.walks;
-        at = to;
-        order = subst (λ (l : List LogEntry). Accepts station.accepted l to)
-            (all_entries o.first (seen_with d left) h.entries o.none h.log) h.order;
-        breaks = breaks_untreated d.at (log_of d) error to untreated may;
-        unended = unended_more (log_of c) (log_of d) turn.e which turn.calls.log turn.hook before
-            o.unended;
-      }
+  breaks_more c d context context' client left tries which to error untreated before may turn o = record {
+    from = o.from;
+    walks = walks_more c d context context' client left o.from turn.e turn.calls o.walks;
+    at = to;
+    order = order_more c d (station_at c.at) to turn.e turn.calls.log turn.order o.order;
+    breaks = breaks_untreated d.at (log_of d) error to untreated may;
+    again = never_again d.at left to untreated;
+    unended = unended_more (log_of c) (log_of d) turn.e which turn.calls.log turn.hook before
+        o.unended;
+  }
 
   -- or it may behind none
   pub breaks_same : (c d : Calls M K C) (context context' : C) (client left : HttpSession)
@@ -364,21 +407,18 @@ module _ {C M K : Type 0} (allows : Standing → LogEntry → Type 0) (mark_of :
       → IsOpening allows mark_of c context client tries
       → IsBreaking allows mark_of d context' left error
   breaks_same c d context context' client left tries error same stays still untreated may o = record {
-    from = standing None false (moment o.first o.mark);
-    walks = subst (λ (x : Calls M K C). Walk allows (standing None false (moment o.first o.mark))
-        (log_of x) (standing None false (moment (seen_with x left) (mark_of context')))) (sym same)
-        (subst (λ (x : HttpSession). Walk allows (standing None false (moment o.first o.mark))
-        (log_of c) (standing None false (moment (seen_with c x) (mark_of context')))) (sym stays)
-        (subst (λ (n : ℕ). Walk allows (standing None false (moment o.first o.mark))
-        (log_of c) (standing None false (moment (seen_with c client) n))) (sym still)
-        (subst (λ (l : List LogEntry). Walk allows (standing None false (moment o.first o.mark)) l
-        (standing None false (moment (seen_with c client) (mark_of context))))
-        (all_entries o.first (seen_with c client) o.so_far.entries o.none o.so_far.log)
-        o.so_far.walks)));
+    from = o.from;
+    walks = subst (λ (x : Calls M K C). Walk allows o.from (log_of x)
+        (standing None false (moment (seen_with x left) (mark_of context')))) (sym same)
+        (subst (λ (x : HttpSession). Walk allows o.from (log_of c)
+        (standing None false (moment (seen_with c x) (mark_of context')))) (sym stays)
+        (subst (λ (n : ℕ). Walk allows o.from (log_of c)
+        (standing None false (moment (seen_with c client) n))) (sym still) o.walks));
     at = station_at c.at;
     order = subst (λ (x : Calls M K C). Accepts station.accepted (log_of x) (station_at c.at))
-        (sym same) (opening_stands c context client tries o).order;
+        (sym same) o.order;
     breaks = breaks_untreated d.at (log_of d) error (station_at c.at) untreated may;
+    again = never_again d.at left (station_at c.at) untreated;
     unended = subst (λ (x : Calls M K C). IsUnended (log_of x)) (sym same) o.unended;
   }
 
@@ -390,25 +430,19 @@ module _ {C M K : Type 0} (allows : Standing → LogEntry → Type 0) (mark_of :
       → Turns allows which (station_at c.at) station.sent QueuesNothing (seen_with c client)
       (mark_of context) (seen_with d left) (mark_of context')
       → IsOpening allows mark_of c context client tries → IsRelayingCalls allows mark_of d a
-  relays_more c d context context' client left tries which a linked before same stays turn o =
-      let h = more_called c d context context' client left tries which station.sent turn o in
-      record {
-        first = left;
-        from = standing None false (moment o.first o.mark);
-        walks = subst (λ (x : C). Walk allows (standing None false (moment o.first o.mark))
-            (log_of d) (standing None false (moment (seen_with d left) (mark_of x)))) (sym same)
-            (subst (λ (l : List LogEntry). Walk allows
-            (standing None false (moment o.first o.mark)) l
-            (standing None false (moment (seen_with d left) (mark_of context'))))
-            (all_entries o.first (seen_with d left) h.entries o.none h.log) h.walks);
-        order = subst (λ (l : List LogEntry). Accepts station.accepted l station.sent)
-            (all_entries o.first (seen_with d left) h.entries o.none h.log) h.order;
-        head = ap (λ (x : HttpSession). head_of x.reading) (sym stays);
-        unanswered = ap (λ (x : Writing). has_head x.place) turn.queued.same ∙ o.unanswered;
-        unended = unended_more (log_of c) (log_of d) turn.e which turn.calls.log turn.hook before
-            o.unended;
-        linked = linked;
-      }
+  relays_more c d context context' client left tries which a linked before same stays turn o = record {
+    first = left;
+    from = o.from;
+    walks = subst (λ (x : C). Walk allows o.from (log_of d)
+        (standing None false (moment (seen_with d left) (mark_of x)))) (sym same)
+        (walks_more c d context context' client left o.from turn.e turn.calls o.walks);
+    order = order_more c d (station_at c.at) station.sent turn.e turn.calls.log turn.order o.order;
+    head = ap (λ (x : HttpSession). head_of x.reading) (sym stays);
+    unanswered = ap (λ (x : Writing). has_head x.place) turn.queued.same ∙ o.unanswered;
+    unended = unended_more (log_of c) (log_of d) turn.e which turn.calls.log turn.hook before
+        o.unended;
+    linked = linked;
+  }
 
   -- the error of an attempt was treated, and is to be answered
   pub treated_breaks : (c d : Calls M K C) (context context' : C) (client left : HttpSession)
@@ -422,22 +456,18 @@ module _ {C M K : Type 0} (allows : Standing → LogEntry → Type 0) (mark_of :
       let e : LogEntry = t.call.turn.e in
       record {
         from = b.from;
-        walks = subst (λ (l : List LogEntry). Walk allows b.from l
-            (standing None false (moment (seen_with d left) (mark_of context'))))
-            (sym t.call.turn.calls.log)
-            (Walk-append allows (log_of c) (e ∷ []) b.from
-            (standing None false (moment (seen_with c client) (mark_of context)))
-            (standing None false (moment (seen_with d left) (mark_of context'))) b.walks
-            t.call.turn.calls.walk);
+        walks = walks_more c d context context' client left b.from e t.call.turn.calls b.walks;
         at = to;
-        order = subst (λ (l : List LogEntry). Accepts station.accepted l to)
-            (sym t.call.turn.calls.log)
-            (Accepts-one station.accepted b.at to (log_of c) e b.order t.call.turn.order);
+        order = order_more c d b.at to e t.call.turn.calls.log t.call.turn.order b.order;
         breaks = subst (λ (a : At K C). BreaksAt a (log_of d) raised to) (sym is) (
           treats_last (log_of c) (log_of d) e t.call.turn.calls.log t.call.turn.hook raised treated
               t.call.input t.call.output,
           may_answer (may_follow treated (seen_with c client)),
         );
+        again = λ other is_other marked open_to. repeats_at treated (seen_with c client)
+            (subst (λ (x : Error). may_retry x.retry ≡ true)
+            (same_error other treated (sym is_other ∙ ap (λ (a : At K C). treated_at a) is)) marked)
+            (ap (λ (x : Writing). has_head x.place) (sym t.call.turn.queued.same) ∙ open_to);
         unended = unended_more (log_of c) (log_of d) e hook.ErrorWhileProxy t.call.turn.calls.log
             t.call.turn.hook refl b.unended;
       }
@@ -452,6 +482,85 @@ module _ {C M K : Type 0} (allows : Standing → LogEntry → Type 0) (mark_of :
         (record { from = b.from; to = _; walks = b.walks; order = b.order }),
   )
 
+  -- where another attempt follows the application is asked for the warning of the error
+  pub repeats_turn : (c d : Calls M K C) (context context' : C) (client left : HttpSession)
+      (treated : Error)
+      → CallsNext allows (record c { at = at.Repeatable treated }) client (mark_of context) d left
+      (mark_of context')
+      → leads_at d.at ≡ led.GoesOn
+      → Turns allows hook.SuppressProxyWarnLog station.repeatable (station_at d.at) QueuesNothing
+      (seen_with c client) (mark_of context) (seen_with d left) (mark_of context')
+  repeats_turn c d context context' client left treated
+      (TakesNext.leads before which comes there to turn) goes = absurd (true≢false (sym before))
+  repeats_turn c d context context' client left treated (TakesNext.tried t) goes =
+      subst (λ (h : Hook). Turns allows h station.repeatable (station_at d.at) QueuesNothing
+      (seen_with c client) (mark_of context) (seen_with d left) (mark_of context'))
+      (sym (same_hooks hook.SuppressProxyWarnLog t.which t.comes)) t.turn
+  repeats_turn c d context context' client left treated (TakesNext.lost to same) goes =
+      let clash : led.OutOfMemory ≡ led.GoesOn =
+      sym (ap (λ (a : At K C). leads_at a) to) ∙ goes in cc
+
+  -- so it does behind one whose error was treated and is marked so, where no final head was queued
+  pub repeats_calls : (c d : Calls M K C) (context context' : C) (client left : HttpSession)
+      (tries : List AttemptRecord) (error treated : Error) → treated_at c.at ≡ Some treated
+      → may_retry treated.retry ≡ true → has_head client.writing.place ≡ false
+      → CallsNext allows (record c { at = at.Repeatable treated }) client (mark_of context) d left
+      (mark_of context')
+      → leads_at d.at ≡ led.GoesOn → IsBreaking allows mark_of c context client error
+      → IsOpening allows mark_of d context' left tries × (is_before d.at ≡ false)
+  repeats_calls c d context context' client left tries error treated is marked open_to
+      (TakesNext.leads before which comes there to turn) goes b = absurd (true≢false (sym before))
+  repeats_calls c d context context' client left tries error treated is marked open_to
+      (TakesNext.tried t) goes b =
+      let turn = repeats_turn c d context context' client left treated (TakesNext.tried t) goes in
+      let here : Accepts station.accepted (log_of c) station.repeatable =
+      subst (λ (x : Station). Accepts station.accepted (log_of c) x)
+      (b.again treated is marked open_to) b.order in (
+        record {
+          from = b.from;
+          walks = walks_more c d context context' client left b.from turn.e turn.calls b.walks;
+          order = order_more c d station.repeatable (station_at d.at) turn.e turn.calls.log
+              turn.order here;
+          goes = t.goes;
+          named = t.tells;
+          untried = λ still. absurd (true≢false (sym still ∙ t.past));
+          untreated = untreated_again (log_of c) (log_of d) turn.e turn.calls.log turn.hook;
+          unanswered = ap (λ (x : Writing). has_head x.place) turn.queued.same ∙ open_to;
+          unended = unended_more (log_of c) (log_of d) turn.e hook.SuppressProxyWarnLog
+              turn.calls.log turn.hook refl b.unended;
+        },
+        t.past,
+      )
+  repeats_calls c d context context' client left tries error treated is marked open_to
+      (TakesNext.lost to same) goes b =
+      let clash : led.OutOfMemory ≡ led.GoesOn =
+      sym (ap (λ (a : At K C). leads_at a) to) ∙ goes in cc
+
+  -- wherever that call led the log is in order
+  pub repeats_logged : (c d : Calls M K C) (context context' : C) (client left : HttpSession)
+      (error treated : Error) → treated_at c.at ≡ Some treated → may_retry treated.retry ≡ true
+      → has_head client.writing.place ≡ false
+      → CallsNext allows (record c { at = at.Repeatable treated }) client (mark_of context) d left
+      (mark_of context')
+      → IsBreaking allows mark_of c context client error
+      → (at : Station) × IsLogged allows (log_of d) at
+  repeats_logged c d context context' client left error treated is marked open_to
+      (TakesNext.leads before which comes there to turn) b = absurd (true≢false (sym before))
+  repeats_logged c d context context' client left error treated is marked open_to
+      (TakesNext.tried t) b = (
+        station_at d.at,
+        record {
+          from = b.from;
+          to = standing None false (moment (seen_with d left) (mark_of context'));
+          walks = walks_more c d context context' client left b.from t.turn.e t.turn.calls b.walks;
+          order = order_more c d station.repeatable (station_at d.at) t.turn.e t.turn.calls.log
+              t.turn.order (subst (λ (x : Station). Accepts station.accepted (log_of c) x)
+              (b.again treated is marked open_to) b.order);
+        },
+      )
+  repeats_logged c d context context' client left error treated is marked open_to
+      (TakesNext.lost to same) b = untreated_logged c d context client error same b
+
   -- the context was made, and the calls so far are that one
   pub begun_calls : (c d : Calls M K C) (client left : HttpSession) (context : C)
       (tries : List AttemptRecord) → log_of c ≡ [] → tries ≡ [] → HasBegun d.at
@@ -459,24 +568,29 @@ module _ {C M K : Type 0} (allows : Standing → LogEntry → Type 0) (mark_of :
       → HasCalled allows (seen_with c client) (mark_of context) station.accepted station.made
       QueuesNothing (seen_with d left) (mark_of context)
       → IsOpening allows mark_of d context left tries
-  begun_calls c d client left context tries none untried begun open_to one called = record {
-    first = seen_with c client;
-    mark = mark_of context;
-    none = none;
-    so_far = subst (λ (a : At K C). HasCalled allows (seen_with c client) (mark_of context)
-        station.accepted (station_at a) QueuesNothing (seen_with d left) (mark_of context))
-        (sym begun.1) called;
-    goes = subst (λ (a : At K C). GoesOn a) (sym begun.1) tt;
-    named = subst (λ (a : At K C). TellsPeer a (log_of d)) (sym begun.1) tt;
-    untried = λ still. untried;
-    untreated = subst (λ (l : List LogEntry). IsUntreated l)
-        (all_entries (seen_with c client) (seen_with d left) called.entries none called.log)
-        (made_untreated called.entries called.order
-        (entries_one (log_of c) (log_of d) called.entries none called.log one));
-    unanswered = ap (λ (x : Writing). has_head x.place) called.queued.same ∙ open_to;
-    unended = begun_on (log_of c) (log_of d) called.entries called.log called.order one
-        (subst (λ (l : List LogEntry). IsUnended l) (sym none) refl);
-  }
+  begun_calls c d client left context tries none untried begun open_to one called =
+      let entries = all_entries (seen_with c client) (seen_with d left) called.entries none
+      called.log in
+      record {
+        from = standing None false (moment (seen_with c client) (mark_of context));
+        walks = subst (λ (l : List LogEntry). Walk allows
+            (standing None false (moment (seen_with c client) (mark_of context))) l
+            (standing None false (moment (seen_with d left) (mark_of context)))) entries
+            called.walks;
+        order = subst (λ (a : At K C). Accepts station.accepted (log_of d) (station_at a))
+            (sym begun.1)
+            (subst (λ (l : List LogEntry). Accepts station.accepted l station.made) entries
+            called.order);
+        goes = subst (λ (a : At K C). GoesOn a) (sym begun.1) tt;
+        named = subst (λ (a : At K C). TellsPeer a (log_of d)) (sym begun.1) tt;
+        untried = λ still. untried;
+        untreated = subst (λ (l : List LogEntry). IsUntreated l) entries
+            (made_untreated called.entries called.order
+            (entries_one (log_of c) (log_of d) called.entries none called.log one));
+        unanswered = ap (λ (x : Writing). has_head x.place) called.queued.same ∙ open_to;
+        unended = begun_on (log_of c) (log_of d) called.entries called.log called.order one
+            (subst (λ (l : List LogEntry). IsUnended l) (sym none) refl);
+      }
 
 module _ {M K X : Type 0} where
   -- between two sessions of the same head the standing of a log may change, where no final head was
@@ -494,6 +608,23 @@ module _ {M K X : Type 0} where
   }
 
 module _ {C M K : Type 0} (allows : Standing → LogEntry → Type 0) (mark_of : C → ℕ) where
+  -- behind another attempt more the calls so far are the same, where none comes next that is called
+  -- before all of them
+  tried_calls : (calls : Calls M K C) (context : C) (client : HttpSession)
+      (tries tried : List AttemptRecord) → IsOpening allows mark_of calls context client tries
+      → is_before calls.at ≡ false → IsOpening allows mark_of calls context client tried
+  tried_calls calls context client tries tried o past = record {
+    from = o.from;
+    walks = o.walks;
+    order = o.order;
+    goes = o.goes;
+    named = o.named;
+    untried = λ still. absurd (true≢false (sym still ∙ past));
+    untreated = o.untreated;
+    unanswered = o.unanswered;
+    unended = o.unended;
+  }
+
   -- no call was made yet, and none is to be
   uncalled_end : (calls : Calls M K C) (came : Outcome) → log_of calls ≡ [] → IsUncalledEnd came
       → HasCome allows mark_of calls came
@@ -518,6 +649,7 @@ module _ {L C M K : Type 0} (allows : Standing → LogEntry → Type 0) (mark_of
   unopened_calls calls (Prepare context session link lease) none is = absurd is
   unopened_calls calls (Relay a) none is = absurd is
   unopened_calls calls (Broken context session link lease keep error) none is = absurd is
+  unopened_calls calls (Again context session link lease keep error) none is = absurd is
   unopened_calls calls (Fail link lease keep session error) none is = absurd is
   unopened_calls calls (Close link lease keep outcome) none is = absurd is
   unopened_calls calls (Answer session owed attempts) none is =
@@ -540,6 +672,8 @@ module _ {L C M K : Type 0} (allows : Standing → LogEntry → Type 0) (mark_of
   begun_exchange calls context session (Relay a) begins relays logged =
       relays a.value begins.0 begins.1
   begun_exchange calls context session (Broken other stays link lease keep error) begins relays
+      logged = absurd begins
+  begun_exchange calls context session (Again other stays link lease keep error) begins relays
       logged = absurd begins
   begun_exchange calls context session (Fail link lease keep stays error) begins relays logged =
       absurd begins
@@ -565,6 +699,9 @@ module _ {L C M K : Type 0} (allows : Standing → LogEntry → Type 0) (mark_of
       subst (λ (k : Phase L C). CallsSoFar allows mark_of calls k) (sym does.0) so_far
   settled_calls calls (Broken context session link lease keep error) settled before after does so_far =
       subst (λ (k : Phase L C). CallsSoFar allows mark_of calls k) (sym does.0) so_far
+  settled_calls calls (Again context session link lease keep error) settled before after does so_far =
+      subst (λ (k : Phase L C). CallsSoFar allows mark_of calls k) (sym does.1)
+      (tried_calls allows mark_of calls context session.value (tries_in lease) does.0 so_far.0 so_far.1)
   settled_calls calls (Fail link lease keep session error) settled before after does so_far =
       subst (λ (k : Phase L C). CallsSoFar allows mark_of calls k) (sym does.1) so_far
   settled_calls calls (Answer session owed attempts) settled before after does so_far =

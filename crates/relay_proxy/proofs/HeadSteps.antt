@@ -174,6 +174,7 @@ module _ {L C : Type 0} (state : L → LinkState) (start_at : L → LinkStart) w
       whole = sym (append-nil w.ahead);
       written = refl;
       unsent = record { got = refl; sent = refl };
+      untried = (refl, refl);
     };
   }
 
@@ -195,6 +196,7 @@ module _ {L C : Type 0} (state : L → LinkState) (start_at : L → LinkStart) w
         whole = kept ∙ run.holds.whole;
         written = run.holds.written;
         unsent = run.holds.unsent;
+        untried = run.holds.untried;
       };
     };
   }
@@ -288,6 +290,7 @@ module _ {L C : Type 0} (state : L → LinkState) (start_at : L → LinkStart) w
             whole = all;
             written = run.holds.written;
             unsent = record { got = run.holds.unsent.got; sent = run.holds.unsent.sent };
+            untried = run.holds.untried;
           };
         };
       }

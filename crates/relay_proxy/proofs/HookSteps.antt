@@ -25,12 +25,10 @@ use Rattle.relay_session.specs.declared.task_text.Request.{Request}
 use Rattle.relay_session.specs.declared.writing.Outgoing.{Outgoing}
 use Rattle.relay_session.specs.declared.writing.Outgoing.TheVariants as outgoing
 use Rattle.relay_session.specs.declared.writing.Writing.{Writing}
-use Rattle.relay_hooks.specs.Standing.{Standing, standing}
+use Rattle.relay_hooks.specs.Standing.{Standing}
 use Rattle.relay_phases.specs.Order.{Accepts, Station, next}
 use Rattle.relay_phases.specs.Order.{Station as station}
 use Rattle.relay_phases.specs.Turns.{QueuesNothing, Turns}
-use Rattle.relay_phases.proofs.OrderLemmas.{Accepts-one}
-use Rattle.relay_phases.proofs.TurnLemmas.{HasCalled-more}
 use Rattle.relay_opening.specs.Opens.{TurnsTo}
 use Rattle.relay_opening.specs.Place.{end_station, next_hook}
 use Rattle.relay_opening.specs.declared.place.Called.{Called}
@@ -49,8 +47,6 @@ use Rattle.relay_proxy.specs.Phases.{IsConnecting}
 use Rattle.relay_proxy.specs.Relayable.{IsAccepted}
 use Rattle.relay_proxy.specs.Sent.{IsUntreated}
 use Rattle.relay_proxy.specs.Tries.{refusals_in}
-use Rattle.relay_hooks.specs.Session.{moment}
-use Rattle.relay_calls.specs.Log.{Walk}
 use Rattle.relay_closing.specs.Place.{begun}
 use Rattle.relay_proxy.specs.declared.owed.Owed.TheVariants as owing
 use Rattle.relay_proxy.specs.declared.calls.At.{At}
@@ -60,7 +56,7 @@ use Rattle.relay_proxy.specs.declared.calls.Opened.{Opened}
 use Rattle.relay_proxy.specs.declared.calls.Opened.TheVariants as led
 use Rattle.relay_proxy.specs.declared.record.AttemptRecord.{AttemptRecord}
 use Rattle.relay_proxy.specs.declared.work.Work.{Work}
-use Rattle.relay_proxy.proofs.CallLemmas.{all_entries, logged_more, logged_same, none_called, one_called, opening_stands}
+use Rattle.relay_proxy.proofs.CallLemmas.{logged_more, logged_same, none_called, one_called, order_more, walks_more}
 use Rattle.relay_proxy.proofs.LastCalls.{unended_unlogged}
 use Rattle.relay_proxy.proofs.NamedLemmas.{refusals_still}
 use Rattle.relay_proxy.proofs.OpenSteps.{AnswersAs, called_accepted, hooks_answer, stands_first, stays_connecting}
@@ -377,13 +373,11 @@ module _ {C M K : Type 0} (allows : Standing → LogEntry → Type 0) (mark_of :
     opening_on tries goes o =
         let g = goes_by turns goes in
         record {
-          first = o.first;
-          mark = o.mark;
-          none = o.none;
-          so_far = HasCalled-more allows QueuesNothing QueuesNothing QueuesNothing quiet_twice
-              o.first o.mark g.which station.accepted (station_at old.at) (station_at new.at)
-              (seen_with old client) (mark_of context) (seen_with new left) (mark_of context')
-              o.so_far g.turn;
+          from = o.from;
+          walks = walks_more allows mark_of old new context context' client left o.from g.turn.e
+              g.turn.calls o.walks;
+          order = order_more old new (station_at old.at) (station_at new.at) g.turn.e
+              g.turn.calls.log g.turn.order o.order;
           goes = g.goes;
           named = g.tells;
           untried = λ still. o.untried (g.before still);
@@ -409,9 +403,7 @@ module _ {C M K : Type 0} (allows : Standing → LogEntry → Type 0) (mark_of :
         → IsOpening allows mark_of old context client tries
         → Accepts station.accepted (log_of new) to
     order_on tries e to more leads o =
-        subst (λ (l : List LogEntry). Accepts station.accepted l to) (sym more)
-        (Accepts-one station.accepted (station_at old.at) to (log_of old) e
-        (opening_stands allows mark_of old context client tries o).order leads)
+        order_more old new (station_at old.at) to e more leads o.order
 
     -- hooks answered it: what waits is what its client is owed
     pub record Answered (s : Start) (q : Passed) : Type 0 where
@@ -579,18 +571,11 @@ module _ {C M K : Type 0} (allows : Standing → LogEntry → Type 0) (mark_of :
         let order : Accepts station.accepted (log_of new) station.answered =
         subst (λ (a : Station). Accepts station.accepted (log_of new) a) done.at
         (order_on tries t.turn.0.e (end_station done.how) t.turn.0.calls.log t.turn.0.order o) in
-        let unended : IsUnended (log_of new) = unended_by turns o.unended in
-        let called = HasCalled-more allows QueuesNothing _ (λ a b wrote. Unit {0})
-        (λ a b c v w first behind. tt) o.first o.mark t.which station.accepted (station_at old.at)
-        (end_station done.how) (seen_with old client) (mark_of context) (seen_with new left)
-        (mark_of context') o.so_far t.turn.0 in (
+        let unended : IsUnended (log_of new) = unended_by turns o.unended in (
           record {
-            from = standing None false (moment o.first o.mark);
-            walks = subst (λ (l : List LogEntry). Walk allows
-                (standing None false (moment o.first o.mark)) l
-                (standing None false (moment (seen_with new left) (mark_of context'))))
-                (all_entries o.first (seen_with new left) called.entries o.none called.log)
-                called.walks;
+            from = o.from;
+            walks = walks_more allows mark_of old new context context' client left o.from t.turn.0.e
+                t.turn.0.calls o.walks;
             start = station.answered;
             begins = refl;
             order = order;

@@ -40,7 +40,7 @@ use Rattle.relay_closing.specs.declared.place.Place.{Place}
 use Rattle.relay_closing.specs.declared.place.Place.TheVariants as closing
 use Rattle.relay_closing.specs.declared.place.Stage.{Stage}
 use Rattle.relay_closing.specs.declared.place.Stage.TheVariants as stage
-use Rattle.relay_proxy.specs.Calls.{CallsSoFar, BreaksAt, CameIn, CountsCalls, EndsBy, HasAnswered, HasClosed, HasCome, HasFinished, IsBreaking, IsLackingCalls, IsLogged, IsOpening, IsOwing, IsRelayingCalls, IsUnended, IsUnheard, KeepsCalls, KeepsValue, Owing, OwesIn, ShowsSame, StandsAt, StandsBy, closed_with, ended_with, log_of, seen_with, station_at}
+use Rattle.relay_proxy.specs.Calls.{CallsSoFar, BreaksAt, CameIn, CountsCalls, EndsBy, HasAnswered, HasClosed, HasCome, HasFinished, IsBreaking, IsLackingCalls, IsLogged, IsOpening, IsOwing, IsRelayingCalls, IsUnended, IsUnheard, KeepsCalls, KeepsValue, Owing, OwesIn, ShowsSame, StandsAt, StandsBy, closed_with, ended_with, log_of, seen_with, station_at, treated_at}
 use Rattle.relay_proxy.specs.ClosingHooks.{failed_with}
 use Rattle.relay_proxy.specs.Endings.{error_of}
 use Rattle.relay_proxy.specs.Owed.{outcome_failed, outcome_owed}
@@ -50,7 +50,7 @@ use Rattle.relay_proxy.specs.declared.calls.At.TheVariants as at
 use Rattle.relay_proxy.specs.declared.calls.Calls.{Calls}
 use Rattle.relay_proxy.specs.declared.machine.Attempt.{Attempt}
 use Rattle.relay_proxy.specs.declared.machine.Phase.{Phase}
-use Rattle.relay_proxy.specs.declared.machine.Phase.TheVariants.{ReadHead, Connect, Unlinked, Prepare, Relay, Broken, Fail, Close, Answer, Ended}
+use Rattle.relay_proxy.specs.declared.machine.Phase.TheVariants.{ReadHead, Connect, Unlinked, Prepare, Relay, Broken, Again, Fail, Close, Answer, Ended}
 use Rattle.relay_proxy.specs.declared.outcome.Outcome.{Outcome}
 use Rattle.relay_proxy.specs.declared.outcome.Outcome.TheVariants as outcome
 use Rattle.relay_proxy.specs.declared.owed.Owed.{Owed}
@@ -59,7 +59,7 @@ use Rattle.relay_proxy.specs.declared.record.AttemptRecord.{AttemptRecord}
 use Rattle.relay_proxy.specs.declared.work.Work.{Work}
 use Rattle.relay_proxy.specs.Relaying.{is_relaying}
 use Rattle.relay_proxy.specs.Tries.{fault_error, tries_in}
-use Rattle.relay_proxy.proofs.CallLemmas.{all_entries, none_logged, opening_logged, opening_stands, views_on, walk_further}
+use Rattle.relay_proxy.proofs.CallLemmas.{never_again, none_logged, opening_logged, views_on, walk_further}
 
 -- ---- what `logging` was told
 
@@ -389,6 +389,7 @@ module _ {L C M K : Type 0} (allows : Standing → LogEntry → Type 0) (mark_of
   in_outcome calls (Prepare context session link lease) came is come = absurd is
   in_outcome calls (Relay a) came is come = absurd is
   in_outcome calls (Broken context session link lease keep error) came is come = absurd is
+  in_outcome calls (Again context session link lease keep error) came is come = absurd is
   in_outcome calls (Fail link lease keep session error) came is come = absurd is
   in_outcome calls (Close link lease keep outcome) came is come =
       subst (λ (o : Outcome). HasCome allows mark_of calls o) (sym is) come
@@ -406,6 +407,7 @@ module _ {L C M K : Type 0} (allows : Standing → LogEntry → Type 0) (mark_of
   in_owing calls (Prepare context other link lease) session owed is o = absurd is
   in_owing calls (Relay a) session owed is o = absurd is
   in_owing calls (Broken context other link lease keep error) session owed is o = absurd is
+  in_owing calls (Again context other link lease keep error) session owed is o = absurd is
   in_owing calls (Fail link lease keep other error) session owed is o =
       subst (λ (b : Box HttpSession). IsOwing allows mark_of calls b.value (owing.Served error))
       (sym is.0)
@@ -529,12 +531,8 @@ module _ {C M K : Type 0} (allows : Standing → LogEntry → Type 0) (mark_of :
       → IsOpening allows mark_of c context client tries
       → IsOwing allows mark_of d left (owing.Ahead (Some e))
   opening_ends c d context client left tries e here is h o =
-      let entries = all_entries o.first (seen_with c client) o.so_far.entries o.none o.so_far.log in
-      answered_ends c d context client left e (standing None false (moment o.first o.mark)) here
-      (subst (λ (l : List LogEntry). Walk allows (standing None false (moment o.first o.mark)) l
-      (standing None false (moment (seen_with c client) (mark_of context)))) entries o.so_far.walks)
-      (subst (λ (a : Station). Accepts station.accepted (log_of c) a) is
-      (opening_stands allows mark_of c context client tries o).order) o.unended h
+      answered_ends c d context client left e o.from here o.walks
+      (subst (λ (a : Station). Accepts station.accepted (log_of c) a) is o.order) o.unended h
 
   -- of a request without a link the log is in order
   pub lacking_logged : (calls : Calls M K C) (context : C) (client : HttpSession)
@@ -603,6 +601,8 @@ module _ {L C M K : Type 0} (allows : Standing → LogEntry → Type 0) (mark_of
     so_far.at,
     record { from = so_far.from; to = _; walks = so_far.walks; order = so_far.order },
   )
+  calls_logged calls (Again context session link lease keep error) so_far =
+      opening_logged allows mark_of calls context session.value (tries_in lease) so_far.0
   calls_logged calls (Fail link lease keep session error) so_far =
       owing_logged allows mark_of calls session.value (owing.Served error) so_far
   calls_logged calls (Close link lease keep outcome) so_far =
@@ -647,8 +647,11 @@ module _ {L C M K : Type 0} (allows : Standing → LogEntry → Type 0) (mark_of
         order = so_far.order;
         breaks = subst (λ (a : At K C). BreaksAt a (log_of calls) error station.sent)
             (sym so_far.linked) refl;
+        again = never_again calls.at session.value station.sent
+            (ap (λ (a : At K C). treated_at a) so_far.linked);
         unended = so_far.unended;
       })
+  kept_calls calls new a (Again context session link lease keep error) keeps so_far = absurd keeps
   kept_calls calls new a (Fail link lease keep session error) keeps so_far = absurd keeps
   kept_calls calls new a (Close link lease keep came) keeps so_far = by keeps
     where
@@ -677,6 +680,8 @@ module _ {L C M K : Type 0} (allows : Standing → LogEntry → Type 0) (mark_of
   relaying_calls calls new (Relay a) next is keeps so_far =
       kept_calls calls new a.value next (keeps a refl) so_far
   relaying_calls calls new (Broken context session link lease keep error) next is keeps so_far =
+      absurd (true≢false (sym is))
+  relaying_calls calls new (Again context session link lease keep error) next is keeps so_far =
       absurd (true≢false (sym is))
   relaying_calls calls new (Fail link lease keep session error) next is keeps so_far =
       absurd (true≢false (sym is))

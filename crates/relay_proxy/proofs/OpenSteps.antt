@@ -6,7 +6,7 @@
 --   stays_connecting               a call behind which the request goes on
 --   hooks_answer, hooks_stop       calls that end it
 use Rattle.std.specs.Global.{Box}
-use Rattle.std.proofs.Common.{◌≡◌, ℕ, ◌+◌, ◌<◌, Bool, true, false, List, [], ◌∷◌, ◌++◌, length, drop, map, Option, Some, None, refl, sym, ap, subst, ◌∙◌, inl, inr, true≢false, arith, append-nil, unwrap_or, is_some}
+use Rattle.std.proofs.Common.{◌≡◌, ℕ, ◌+◌, ◌<◌, ◌≤◌, Bool, true, false, List, [], ◌∷◌, ◌++◌, length, drop, map, Option, Some, None, refl, sym, ap, subst, ◌∙◌, inl, inr, true≢false, arith, append-nil, unwrap_or, is_some}
 use Rattle.std.specs.List.{All}
 use Rattle.std.specs.Prelude.{IsSome}
 use Rattle.relay_tasks.specs.Head.{RequestHead, new_request}
@@ -99,8 +99,10 @@ pub called_tries : (s : Start) (these those : List LogEntry) (tries : List Attem
     → refusals_in those ≡ refusals_in these
     → AreTries (opened_to s these) tries → AreTries (opened_to s those) tries
 called_tries s these those tries same are = record {
+  fits = subst (λ (rs : List Refusal). s.refused ≤ length rs) (sym same) are.fits;
   told = are.told
-      ∙ ap (λ (rs : List Refusal). map (λ (r : Refusal). record_of r) rs) (sym same);
+      ∙ ap (λ (rs : List Refusal).
+      s.tried ++ map (λ (r : Refusal). record_of r) (drop s.refused rs)) (sym same);
   each = subst (λ (rs : List Refusal). All IsTry rs) (sym same) are.each;
   allowed = are.allowed;
 }
@@ -129,7 +131,7 @@ closed_accepted s log closed p head accepted = record {
 pub closed_tries : (s : Start) (log closed : List LogEntry) (tries : List AttemptRecord)
     → AreTries (opened_to s log) tries → AreTries (closed_to s log closed) tries
 closed_tries s log closed tries are =
-    record { told = are.told; each = are.each; allowed = are.allowed }
+    record { fits = are.fits; told = are.told; each = are.each; allowed = are.allowed }
 
 -- a log of one call tells of none
 lone_untold : (es : List LogEntry) → length es ≡ 1 → refusals_in es ≡ []
@@ -607,7 +609,8 @@ module _ {L C : Type 0} (state : L → LinkState) (start_at : L → LinkStart) w
                 (ahead ∙ ap (λ (xs : List ℕ). drop len xs) run.holds.whole) behind);
             written = run.holds.written;
             unsent = run.holds.unsent;
-            are_tries = no_tries (opened_to s (log_of d)) tries none
+            are_tries = no_tries (opened_to s (log_of d)) tries run.holds.untried.0
+                run.holds.untried.1 none
                 (lone_untold (log_of d)
                 (one ∙ ap (λ (l : List LogEntry). length l + 1) no_log));
           };

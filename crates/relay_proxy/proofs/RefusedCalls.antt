@@ -19,8 +19,6 @@ use Rattle.relay_hooks.specs.Standing.{Standing, standing}
 use Rattle.relay_calls.specs.Log.{Walk}
 use Rattle.relay_phases.specs.Order.{Accepts, Station}
 use Rattle.relay_phases.specs.Order.{Station as station}
-use Rattle.relay_phases.specs.Turns.{HasCalled, QueuesNothing}
-use Rattle.relay_phases.proofs.TurnLemmas.{HasCalled-more}
 use Rattle.relay_trying.specs.Trying as leads
 use Rattle.relay_trying.specs.Trying.{Treats, may_follow}
 use Rattle.relay_closing.specs.Place.{may_fail}
@@ -32,8 +30,7 @@ use Rattle.relay_proxy.specs.declared.calls.Calls.{Calls}
 use Rattle.relay_proxy.specs.declared.machine.Phase.{Phase}
 use Rattle.relay_proxy.specs.declared.machine.Phase.TheVariants.{Connect, Unlinked}
 use Rattle.relay_proxy.specs.declared.record.AttemptRecord.{AttemptRecord}
-use Rattle.relay_proxy.proofs.CallLemmas.{all_entries}
-use Rattle.relay_proxy.proofs.HookSteps.{quiet_twice}
+use Rattle.relay_proxy.proofs.CallLemmas.{order_more, walks_more}
 use Rattle.relay_proxy.proofs.TreatLemmas.{unended_more, untreated_more}
 use Rattle.relay_proxy.proofs.TryLemmas.{may_or_not}
 
@@ -59,15 +56,17 @@ module _ {C M K : Type 0} (allows : Standing → LogEntry → Type 0) (mark_of :
     abbrev to : Station
     to = leads.treated_at (may_follow treated (seen_with c client))
 
-    -- the calls so far lead there
-    so_far : HasCalled allows o.first o.mark station.accepted to QueuesNothing (seen_with d left)
-        (mark_of context')
-    so_far =
-        HasCalled-more allows QueuesNothing QueuesNothing QueuesNothing quiet_twice o.first o.mark
-        hook.FailToConnect station.accepted station.named to (seen_with c client) (mark_of context)
-        (seen_with d left) (mark_of context')
-        (subst (λ (a : At K C). HasCalled allows o.first o.mark station.accepted (station_at a)
-        QueuesNothing (seen_with c client) (mark_of context)) was o.so_far) t.call.turn
+    -- the log walks past the call, and is in order up to there
+    walks : Walk allows o.from (log_of d)
+        (standing None false (moment (seen_with d left) (mark_of context')))
+    walks =
+        walks_more allows mark_of c d context context' client left o.from t.call.turn.e
+        t.call.turn.calls o.walks
+
+    order : Accepts station.accepted (log_of d) to
+    order =
+        order_more c d station.named to t.call.turn.e t.call.turn.calls.log t.call.turn.order
+        (subst (λ (a : At K C). Accepts station.accepted (log_of c) (station_at a)) was o.order)
 
     -- the end does not begin with it
     unended : IsUnended (log_of d)
@@ -82,13 +81,11 @@ module _ {C M K : Type 0} (allows : Standing → LogEntry → Type 0) (mark_of :
     repeats e attempts f again is =
         subst (λ (x : Calls M K C). IsOpening allows mark_of x context' left attempts) (sym is)
         (record {
-          first = o.first;
-          mark = o.mark;
-          none = o.none;
-          so_far = subst (λ (b : Bool). HasCalled allows o.first o.mark station.accepted
-              (leads.treated_at b) QueuesNothing (seen_with d left) (mark_of context'))
+          from = o.from;
+          walks = walks;
+          order = subst (λ (b : Bool). Accepts station.accepted (log_of d) (leads.treated_at b))
               (follows (may_retry treated.retry) (has_head client.writing.place) again o.unanswered)
-              so_far;
+              order;
           goes = tt;
           named = tt;
           untried = λ still. absurd (true≢false (sym still));
@@ -101,13 +98,10 @@ module _ {C M K : Type 0} (allows : Standing → LogEntry → Type 0) (mark_of :
     -- or none does, and the error is final
     pub lacks : IsLackingCalls allows mark_of d context' left
     lacks = record {
-      from = standing None false (moment o.first o.mark);
-      walks = subst (λ (l : List LogEntry). Walk allows (standing None false (moment o.first o.mark))
-          l (standing None false (moment (seen_with d left) (mark_of context'))))
-          (all_entries o.first (seen_with d left) so_far.entries o.none so_far.log) so_far.walks;
+      from = o.from;
+      walks = walks;
       at = to;
-      order = subst (λ (l : List LogEntry). Accepts station.accepted l to)
-          (all_entries o.first (seen_with d left) so_far.entries o.none so_far.log) so_far.order;
+      order = order;
       fails = may_end (may_follow treated (seen_with c client));
       unended = unended;
     }

@@ -57,6 +57,7 @@ pub closed_ending : (s : Start) (log closed : List LogEntry) (attempts : List At
     → EndsTrying (closed_to s log closed) attempts e
 closed_ending s log closed attempts e made = record {
   refused = made.refused;
+  fits = made.fits;
   told = made.told;
   each = made.each;
   allowed = made.allowed;

@@ -33,11 +33,12 @@ use Rattle.relay_proxy.specs.declared.machine.Phase.{Phase}
 use Rattle.relay_proxy.specs.declared.record.AttemptRecord.{AttemptRecord}
 use Rattle.relay_proxy.specs.declared.machine.Phase.TheVariants.{ReadHead, Connect, Unlinked, Prepare, Relay, Broken, Again, Fail, Close, Answer, Ended}
 
--- the client's head is read: nothing was taken from what is ahead
+-- the client's head is read: nothing was taken from what is ahead, and no attempt was made
 pub record IsReadingHead (s : Start) (p : Passed) (ahead : List ℕ) : Type 0 where
   pub whole : ahead ≡ asked s p
   pub written : p.written ≡ []
   pub unsent : IsUnsent p
+  pub untried : (s.tried ≡ []) × (s.refused ≡ 0)
 
 -- the head was accepted, which hooks then may have changed, and a link is wanted for the session
 -- that begins behind it, after those attempts; nothing was queued for the client

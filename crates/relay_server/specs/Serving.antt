@@ -68,7 +68,8 @@ is_reused OutOfMemory = false
 module _ {L : Type 0} (state : L → LinkState) (start_at : L → LinkStart)
     (allows : Standing → LogEntry → Type 0) where
   -- a request that came to its end, and that might make so many attempts: each call of a hook for
-  -- it was allowed where it stood, and they came in order; what passed is told by the links, in
+  -- it was allowed where it stood, and they came in order. Attempts of it failed over their links,
+  -- each of which was followed by another; what passed in the last one is told by the links, in
   -- order, and what it came to has its cause, by those calls. The outcome is that, `logging` having
   -- been told of its error, and once; or turns or memory ran out in the hooks of its end
   pub record EndedRequest (most : ℕ) (own : List (Returned L)) (outcome : Outcome) : Type 0 where
@@ -77,11 +78,16 @@ module _ {L : Type 0} (state : L → LinkState) (start_at : L → LinkStart)
     pub log : List LogEntry
     pub station : Station
     pub logged : IsLogged allows log station
+    pub legs : List (Leg L)
+    pub are_legs : AreLegs state start_at (called_to start log) legs
     pub passed : Passed
     pub world : World
+    pub last : List (Returned L)
+    pub own_are : own ≡ map (λ leg. leg.back) legs ++ last
     pub attempts : List AttemptRecord
     pub came : Outcome
-    pub ended : IsEnded state start_at (called_to start log) passed world own attempts came
+    pub ended : IsEnded state start_at (called_to (behind start legs) log) passed world last
+        attempts came
     pub given : Gives log came outcome
 
   -- requests came to their ends, one after the other: each that was served or refused is counted
@@ -120,16 +126,20 @@ pub record Divides {L : Type 0} (one others : List (Returned L) → Type 0)
 module _ {L C D U M : Type 0}
     (state : L → LinkState) (start_at : L → LinkStart) (client_state : D → LinkState)
     (allows : Standing → LogEntry → Type 0) (mark_of : C → ℕ) where
-  -- the request is under way since some start, by the calls of hooks so far, and handed these links
-  -- back
+  -- the request is under way since some start, by the calls of hooks so far, behind attempts that
+  -- failed over their links, and handed these links back
   pub record IsUnderWay (most faults : ℕ) (visit : Visit D U L C M) (own : List (Returned L))
       : Type 0 where
     pub start : Start
     pub limit : start.most ≡ most
     pub calls : CallsSoFar allows mark_of visit.calls visit.phase
+    pub legs : List (Leg L)
+    pub are_legs : AreLegs state start_at (called_to start (log_of visit.calls)) legs
     pub passed : Passed
-    pub run : RunSoFar state start_at (called_to start (log_of visit.calls)) passed
-        (world_of client_state visit.client faults) own visit.phase
+    pub last : List (Returned L)
+    pub own_are : own ≡ map (λ leg. leg.back) legs ++ last
+    pub run : RunSoFar state start_at (called_to (behind start legs) (log_of visit.calls)) passed
+        (world_of client_state visit.client faults) last visit.phase
     pub going : is_done visit.phase visit.calls.at ≡ false
 
   -- all requests are under way, and handed these links back
@@ -156,9 +166,13 @@ module _ {L C D U M : Type 0}
         (own ++ links)
     pub start : Start
     pub calls : CallsSoFar allows mark_of visit.calls visit.phase
+    pub legs : List (Leg L)
+    pub are_legs : AreLegs state start_at (called_to start (log_of visit.calls)) legs
     pub passed : Passed
-    pub run : RunSoFar state start_at (called_to start (log_of visit.calls)) passed
-        (world_of client_state visit.client now.faults) own visit.phase
+    pub last : List (Returned L)
+    pub own_are : own ≡ map (λ leg. leg.back) legs ++ last
+    pub run : RunSoFar state start_at (called_to (behind start legs) (log_of visit.calls)) passed
+        (world_of client_state visit.client now.faults) last visit.phase
     pub limit : start.most ≡ before.most
     pub over : is_done visit.phase visit.calls.at ≡ true
     pub under_way : AreUnderWay now.most now.faults rest links
