@@ -27,7 +27,7 @@ module _ (peer : Peer) (links : List IdleLink) (at : ℕ) (idle : IdleLink)
   left_more =
       ap (λ front. front ++ others_than peer (drop (at + 1) links)) (take_more links at idle within)
       ∙ append_assoc (take at links) (get_or links at idle ∷ [])
-          (others_than peer (drop (at + 1) links))
+      (others_than peer (drop (at + 1) links))
 
   -- the link that is read there is the one that stood there
   pub reads : idle ≡ get_or (left_behind peer links (at + 1)) at idle → idle ≡ get_or links at idle
@@ -35,7 +35,7 @@ module _ (peer : Peer) (links : List IdleLink) (at : ℕ) (idle : IdleLink)
       is
       ∙ ap (λ (xs : List IdleLink). get_or xs at idle) left_more
       ∙ get_or_at (take at links) (get_or links at idle) others idle at
-          (length-take-le at links (omega arith))
+      (length-take-le at links (omega arith))
 
   -- the others from the place on, by whether it is one of them
   others_more : idle ≡ get_or links at idle
@@ -43,7 +43,7 @@ module _ (peer : Peer) (links : List IdleLink) (at : ℕ) (idle : IdleLink)
   unfolding others
   others_more is =
       ap (others_than peer)
-          (drop_more links at idle within ∙ ap (λ first. first ∷ drop (at + 1) links) (sym is))
+      (drop_more links at idle within ∙ ap (λ first. first ∷ drop (at + 1) links) (sym is))
 
   -- the link is taken out
   pub takes_out : remove (left_behind peer links (at + 1)) at
@@ -52,9 +52,9 @@ module _ (peer : Peer) (links : List IdleLink) (at : ℕ) (idle : IdleLink)
   takes_out =
       ap (λ (xs : List IdleLink). remove xs at) left_more
       ∙ remove-append_right (take at links) (get_or links at idle ∷ others) at at
-          (length-take-le at links (omega arith)) (omega arith)
+      (length-take-le at links (omega arith)) (omega arith)
       ∙ ap (λ place. take at links ++ remove (get_or links at idle ∷ others) place)
-          (let none : at - at ≡ 0 = omega arith in none)
+      (let none : at - at ≡ 0 = omega arith in none)
 
   -- a link to the peer is gone then
   pub drops : idle ≡ get_or links at idle → is_for peer idle ≡ true
@@ -62,14 +62,14 @@ module _ (peer : Peer) (links : List IdleLink) (at : ℕ) (idle : IdleLink)
   unfolding others
   drops is same =
       ap (λ rest. take at links ++ rest)
-          (sym (others_more is ∙ ap (λ b. cond (not b) (idle ∷ others) others) same))
+      (sym (others_more is ∙ ap (λ b. cond (not b) (idle ∷ others) others) same))
 
   -- the links are those before it, it, and those behind it
   pub parts : idle ≡ get_or links at idle → links ≡ take at links ++ idle ∷ drop (at + 1) links
   parts is =
       sym (take-append-drop at links)
       ∙ ap (λ rest. take at links ++ rest)
-          (drop_more links at idle within ∙ ap (λ first. first ∷ drop (at + 1) links) (sym is))
+      (drop_more links at idle within ∙ ap (λ first. first ∷ drop (at + 1) links) (sym is))
 
 -- a link to the peer goes to its address, with TLS as there
 pub same_address : (peer : Peer) (idle : IdleLink) → is_for peer idle ≡ true
@@ -93,17 +93,17 @@ module _ (peer : Peer) (links now after : List IdleLink) (place : ℕ) (seen idl
   seen_there : seen ≡ get_or links (place - 1) seen
   seen_there =
       reads peer links (place - 1) seen (omega arith)
-          (seen_is ∙ ap (λ (xs : List IdleLink). get_or xs (place - 1) seen) before)
+      (seen_is ∙ ap (λ (xs : List IdleLink). get_or xs (place - 1) seen) before)
 
   there : idle ≡ get_or links (place - 1) idle
   there =
       reads peer links (place - 1) idle (omega arith)
-          (idle_is ∙ ap (λ (xs : List IdleLink). get_or xs (place - 1) idle) before)
+      (idle_is ∙ ap (λ (xs : List IdleLink). get_or xs (place - 1) idle) before)
 
   found : is_for peer idle ≡ true
   found =
       ap (is_for peer)
-          (there ∙ get_or_default links (place - 1) idle seen (omega arith) ∙ sym seen_there)
+      (there ∙ get_or_default links (place - 1) idle seen (omega arith) ∙ sym seen_there)
       ∙ same
 
   -- what stays
