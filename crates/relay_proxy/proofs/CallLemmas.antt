@@ -1,9 +1,11 @@
 -- The calls of a request, by the phase that a turn leads to.
 --
 --   turn_allowed                   what the modules allow in a turn is allowed by modules
+--   walks_more, order_more         a log goes on past a call
 --   breaks_more .. relays_more     an attempt goes out behind a call, or fails
+--   treated_breaks                 its error was treated
+--   repeats_turn .. repeats_logged  and another attempt follows
 --   unopened_calls, begun_exchange  a turn that makes no call leaves the calls so far
---   relaying_calls                 and so does one of an exchange
 --   settled_calls                  and so does the settling of a phase
 use Rattle.std.proofs.Common.{◌≡◌, ℕ, ◌+◌, ◌≤◌, Bool, true, false, not, ◌&&◌, List, [], ◌∷◌, ◌++◌, length, length-append, append-nil, arith, Option, None, Some, refl, sym, ap, subst, ◌∙◌, true≢false}
 use Rattle.std.proofs.lemmas.List.Folds.{list_any-append}
