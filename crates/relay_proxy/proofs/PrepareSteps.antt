@@ -25,16 +25,15 @@ use Rattle.relay_links.proofs.SinceLemmas.{Since-start}
 use Rattle.relay_h1.specs.Framing.{request_framing}
 use Rattle.relay_h1.specs.declared.framing.Framing.{Framing}
 use Rattle.relay_authority.specs.Stage.{Makes}
-use Rattle.relay_session.specs.Reading.{is_body_done}
+use Rattle.relay_session.specs.Reading.{head_of, is_body_done}
 use Rattle.relay_session.specs.Response.{has_head}
 use Rattle.relay_session.specs.declared.writing.Writing.{Writing}
 use Rattle.relay_session.specs.declared.session.HttpSession.{HttpSession}
 use Rattle.relay_modules.specs.declared.seen.Seen.{Seen}
 use Rattle.relay_hooks.specs.Standing.{Standing}
-use Rattle.relay_phases.specs.Order.{Station}
+use Rattle.relay_phases.specs.Order.{Accepts, Station}
 use Rattle.relay_phases.specs.Order.{Station as station}
-use Rattle.relay_phases.specs.Turns.{HasCalled, QueuesNothing, Turns}
-use Rattle.relay_phases.proofs.TurnLemmas.{HasCalled-more}
+use Rattle.relay_phases.specs.Turns.{QueuesNothing, Turns}
 use Rattle.relay_opening.specs.Told.{head_behind}
 use Rattle.relay_trying.specs.Trying.{FiltersHead, TellsConnected, may_break}
 use Rattle.relay_sides.specs.Client.{BeginsBehind}
@@ -64,8 +63,7 @@ use Rattle.relay_proxy.specs.declared.record.AttemptRecord.{AttemptRecord}
 use Rattle.relay_proxy.specs.declared.outcome.Outcome.TheVariants as outcome
 use Rattle.relay_proxy.specs.declared.work.Work.{Work}
 use Rattle.relay_proxy.proofs.ConnectSteps.{no_limit, part_relayed}
-use Rattle.relay_proxy.proofs.CallLemmas.{breaks_more, breaks_same, logged_more, logged_same, none_called, one_called, relays_more}
-use Rattle.relay_proxy.proofs.HookSteps.{quiet_twice}
+use Rattle.relay_proxy.proofs.CallLemmas.{breaks_more, breaks_same, logged_more, logged_same, none_called, one_called, order_more, relays_more, walks_more}
 use Rattle.relay_proxy.proofs.NamedLemmas.{TellsSame, tells_same, tells_still}
 use Rattle.relay_proxy.proofs.OpenHead.{exchange_open}
 use Rattle.relay_proxy.proofs.OpenSteps.{called_tells, called_tries, stays_connecting}
@@ -525,16 +523,13 @@ module _ {C M K : Type 0} (allows : Standing → LogEntry → Type 0) (mark_of :
         (seen_with c client) (mark_of context) (seen_with d left) (mark_of context')
         → IsOpening allows mark_of d context' left tries
     told_calls peer was is turn = record {
-      first = o.first;
-      mark = o.mark;
-      none = o.none;
-      so_far = subst (λ (a : At K C). HasCalled allows o.first o.mark station.accepted (station_at a)
-          QueuesNothing (seen_with d left) (mark_of context')) (sym is)
-          (HasCalled-more allows QueuesNothing QueuesNothing QueuesNothing quiet_twice o.first
-          o.mark hook.ConnectedToUpstream station.accepted station.named station.linked
-          (seen_with c client) (mark_of context) (seen_with d left) (mark_of context')
-          (subst (λ (a : At K C). HasCalled allows o.first o.mark station.accepted (station_at a)
-          QueuesNothing (seen_with c client) (mark_of context)) was o.so_far) turn);
+      from = o.from;
+      walks = walks_more allows mark_of c d context context' client left o.from turn.e turn.calls
+          o.walks;
+      order = subst (λ (a : At K C). Accepts station.accepted (log_of d) (station_at a)) (sym is)
+          (order_more c d station.named station.linked turn.e turn.calls.log
+          turn.order
+          (subst (λ (a : At K C). Accepts station.accepted (log_of c) (station_at a)) was o.order));
       goes = subst (λ (a : At K C). GoesOn a) (sym is) tt;
       named = subst (λ (a : At K C). TellsPeer a (log_of d)) (sym is) tt;
       untried = λ still.
@@ -720,8 +715,9 @@ module _ {L C : Type 0} (state : L → LinkState) (start_at : L → LinkStart) w
       → IsHandedOut (state link) (start_at link) reused → o.reused ≡ reused
       → IsUnderWay state start_at o
       (record { came = came; written = []; got = []; sent = [] }) client ahead a.exchange)
+      → a.exchange.exchange.down.session ≡ session.value
       → IsRelaying state start_at s p w a
-  begun s p w context session given link a run sends begins =
+  begun s p w context session given link a run sends begins same =
       record {
         leased = leased_under_way state start_at s origin p w.client w.ahead a.exchange a.lease refl
             run.holds.0.peer run.holds.0.recorded run.holds.0.tries under;
@@ -730,6 +726,9 @@ module _ {L C : Type 0} (state : L → LinkState) (start_at : L → LinkStart) w
         relayable = run.holds.1.connecting.accepted.relayable;
         sends = sends;
         under_way = under;
+        is_left = ap (λ (h : HttpSession). head_of h.reading) same
+            ∙ run.holds.1.connecting.is_left;
+        quiet = run.holds.1.connecting.quiet;
       }
     where
       origin : Origin

@@ -16,7 +16,7 @@ use Rattle.relay_proxy.specs.Turn.{links_held}
 use Rattle.relay_proxy.specs.declared.record.AttemptRecord.{AttemptRecord}
 use Rattle.relay_proxy.specs.declared.work.Work.{Work}
 use Rattle.relay_proxy.specs.declared.machine.Phase.{Phase}
-use Rattle.relay_proxy.specs.declared.machine.Phase.TheVariants.{ReadHead, Connect, Unlinked, Prepare, Relay, Broken, Fail, Close, Answer, Ended}
+use Rattle.relay_proxy.specs.declared.machine.Phase.TheVariants.{ReadHead, Connect, Unlinked, Prepare, Relay, Broken, Again, Fail, Close, Answer, Ended}
 
 -- a fault of a connector is the one that has its mark
 pub is_its_fault : (fault : Fault) → IsConnectFault fault → connect_fault fault.retry ≡ fault
@@ -85,6 +85,8 @@ told_before_link state start_at tries (Prepare context session link lease) work 
 told_before_link state start_at tries (Relay a) work counts held = absurd counts
 told_before_link state start_at tries (Broken context session link lease keep error) work counts held =
     ap (λ (xs : List AttemptRecord). faults_told xs) counts.2
+told_before_link state start_at tries (Again context session link lease keep error) work counts held =
+    absurd counts
 told_before_link state start_at tries (Fail link lease keep session error) work counts held =
     absurd counts
 told_before_link state start_at tries (Close link lease keep outcome) work counts held =

@@ -1,9 +1,9 @@
 -- The attempts to which no link was given: none yet, one more, the last, those before it, and how
 -- many there are.
-use Rattle.std.proofs.Common.{◌≡◌, ◌≢◌, ◌⊎◌, ℕ, ◌<◌, ◌≤◌, Bool, true, false, true≢false, List, [], ◌∷◌, ◌++◌, length, length-append, map, Option, None, Some, refl, sym, ap, subst, ◌∙◌, inl, inr, arith}
+use Rattle.std.proofs.Common.{◌≡◌, ◌≢◌, ◌⊎◌, ℕ, ◌<◌, ◌+◌, ◌≤◌, Bool, true, false, true≢false, List, [], ◌∷◌, ◌++◌, append_assoc, drop, length, length-append, map, Option, None, Some, refl, sym, ap, subst, ◌∙◌, inl, inr, arith}
 use Rattle.std.specs.List.{All}
 use Rattle.std.proofs.lemmas.List.Elements.{All-append, All-cons, All-nil}
-use Rattle.std.proofs.lemmas.List.{length-map, map-append}
+use Rattle.std.proofs.lemmas.List.{drop-append-le, map-append}
 use Rattle.std.proofs.lemmas.Bool.{cases_lt}
 use Rattle.relay_tasks.specs.Error.{error_of_fault, may_retry}
 use Rattle.relay_tasks.specs.declared.Error.{Error}
@@ -16,39 +16,53 @@ use Rattle.relay_links.specs.declared.Returned.{Returned}
 use Rattle.relay_attempt.specs.Passed.{Passed}
 use Rattle.relay_proxy.specs.Endings.{AttemptsFailed, AttemptsUnfinished, EndsWith, MadeAhead}
 use Rattle.relay_proxy.specs.Passed.{World, Start, opened_to}
-use Rattle.relay_proxy.specs.Tries.{AreTries, EndsTrying, IsRaised, IsRefusedFor, IsTry, LosesTry, MayTry, Refusal, fault_of, record_of, refusals_in, tries_of, unlinked_record, upstream_error}
+use Rattle.relay_proxy.specs.Tries.{AreTries, EndsTrying, IsRaised, IsRefusedFor, IsTry, LosesTry, MayTry, Refusal, fault_of, record_of, refusals_in, refusals_since, tries_of, unlinked_record, upstream_error}
 use Rattle.relay_proxy.specs.declared.outcome.Outcome.{Outcome}
 use Rattle.relay_proxy.specs.declared.outcome.Outcome.TheVariants.{NoRequest, Refused, Served, TurnLimit, OutOfMemory}
 use Rattle.relay_proxy.specs.declared.record.AttemptRecord.{AttemptRecord}
 use Rattle.relay_proxy.proofs.RefusalLemmas.{is_its_fault}
 
--- a request of which no call tells that it was refused a link
-pub no_tries : (s : Start) (tries : List AttemptRecord) → tries ≡ [] → refusals_in s.called ≡ []
-    → AreTries s tries
-no_tries s tries none unrefused = record {
-  told = none ∙ ap (λ (rs : List Refusal). map (λ (r : Refusal). record_of r) rs) (sym unrefused);
+-- the records of those
+abbrev records : List Refusal → List AttemptRecord
+records rs = map (λ (r : Refusal). record_of r) rs
+
+-- a request of which no call tells that it was refused a link, and that made no attempt before
+pub no_tries : (s : Start) (tries : List AttemptRecord) → s.tried ≡ [] → s.refused ≡ 0
+    → tries ≡ [] → refusals_in s.called ≡ [] → AreTries s tries
+no_tries s tries untried first none unrefused = record {
+  fits = omega (arith, first);
+  told = none
+      ∙ ap (λ (rs : List Refusal). records rs) (sym (all_since unrefused first))
+      ∙ ap (λ (xs : List AttemptRecord). xs ++ records (refusals_since s)) (sym untried);
   each = subst (λ (rs : List Refusal). All IsTry rs) (sym unrefused) (All-nil IsTry);
   allowed = λ some. absurd (some none);
 }
+  where
+    all_since : refusals_in s.called ≡ [] → s.refused ≡ 0 → refusals_since s ≡ []
+    all_since is at =
+        ap (λ (n : ℕ). drop n (refusals_in s.called)) at
+        ∙ ap (λ (rs : List Refusal). drop 0 rs) is
 
--- the attempts are as many as those of which the calls tell
-sized : (s : Start) (attempts : List AttemptRecord)
-    → attempts ≡ map (λ (r : Refusal). record_of r) (refusals_in s.called)
-    → length attempts ≡ length (refusals_in s.called)
-sized s attempts told =
-    ap (λ (xs : List AttemptRecord). length xs) told
-    ∙ length-map (refusals_in s.called) (λ (r : Refusal). record_of r)
+-- those since then are one more with one of which a call tells more
+since_more : (n : ℕ) (before those : List Refusal) (r : Refusal) → n ≤ length before
+    → those ≡ before ++ r ∷ [] → drop n those ≡ drop n before ++ r ∷ []
+since_more n before those r fits more =
+    ap (λ (rs : List Refusal). drop n rs) more ∙ drop-append-le n before (r ∷ []) fits
 
--- with one of which a call tells more, there is its record more
+-- and there is its record more
 told_more : (s : Start) (these those : List LogEntry) (tries attempts : List AttemptRecord)
     (r : Refusal) → refusals_in those ≡ refusals_in these ++ r ∷ []
     → attempts ≡ tries ++ record_of r ∷ [] → AreTries (opened_to s these) tries
-    → attempts ≡ map (λ (r : Refusal). record_of r) (refusals_in those)
+    → attempts ≡ s.tried ++ records (drop s.refused (refusals_in those))
 told_more s these those tries attempts r more are before =
+    let since : List Refusal = drop s.refused (refusals_in these) in
     are
     ∙ ap (λ (xs : List AttemptRecord). xs ++ record_of r ∷ []) before.told
-    ∙ sym (map-append (λ (r : Refusal). record_of r) (refusals_in these) (r ∷ []))
-    ∙ ap (λ (rs : List Refusal). map (λ (r : Refusal). record_of r) rs) (sym more)
+    ∙ append_assoc s.tried (records since) (record_of r ∷ [])
+    ∙ ap (λ (xs : List AttemptRecord). s.tried ++ xs)
+    (sym (map-append (λ (x : Refusal). record_of x) since (r ∷ [])))
+    ∙ ap (λ (rs : List Refusal). s.tried ++ records rs)
+    (sym (since_more s.refused (refusals_in these) (refusals_in those) r before.fits more))
 
 -- one attempt more, behind which another is allowed
 pub one_more : (s : Start) (most : ℕ) (these those : List LogEntry)
@@ -57,6 +71,12 @@ pub one_more : (s : Start) (most : ℕ) (these those : List LogEntry)
     → AreTries (opened_to s these) tries → IsTry r → length attempts < most
     → AreTries (opened_to s those) attempts
 one_more s most these those tries attempts r limit more are before try may = record {
+  fits = omega (
+    arith,
+    before.fits,
+    ap (λ (rs : List Refusal). length rs) more,
+    length-append (refusals_in these) (r ∷ []),
+  );
   told = told_more s these those tries attempts r more are before;
   each = subst (λ (rs : List Refusal). All IsTry rs) (sym more)
       (All-append IsTry (refusals_in these) (r ∷ []) before.each
@@ -64,16 +84,18 @@ one_more s most these those tries attempts r limit more are before try may = rec
   allowed = λ some. omega (arith, may, limit);
 }
 
--- none of those before the last is none
-some_before : (s : Start) (tries : List AttemptRecord) → AreTries s tries
-    → refusals_in s.called ≢ [] → tries ≢ []
-some_before s tries are some none =
-    some (no_length (refusals_in s.called)
-    (sym (sized s tries are.told) ∙ ap (λ (xs : List AttemptRecord). length xs) none))
-  where
-    no_length : (rs : List Refusal) → length rs ≡ 0 → rs ≡ []
-    no_length [] is = refl
-    no_length (r ∷ rs) is = cc
+-- all attempts but the last are those before it
+pub tries_behind : (tries : List AttemptRecord) (a : AttemptRecord)
+    → tries_of (tries ++ a ∷ []) ≡ tries
+tries_behind [] a = refl
+tries_behind (b ∷ []) a = refl
+tries_behind (b ∷ c ∷ tries) a =
+    ap (λ (xs : List AttemptRecord). b ∷ xs) (tries_behind (c ∷ tries) a)
+
+pub tries_before : (tries attempts : List AttemptRecord) (a : AttemptRecord)
+    → attempts ≡ tries ++ a ∷ [] → tries_of attempts ≡ tries
+tries_before tries attempts a are =
+    ap (λ (xs : List AttemptRecord). tries_of xs) are ∙ tries_behind tries a
 
 -- the last attempt of which calls tell failed so
 abbrev pub refused_last : (these those : List LogEntry) (r : Refusal) (e : Error)
@@ -96,13 +118,11 @@ pub last_one : (s : Start) (most : ℕ) (these those : List LogEntry)
     → EndsTrying (opened_to s those) attempts e
 last_one s most these those tries attempts r e limit more are before raised is over = record {
   refused = refused_last these those r e more raised is;
+  fits = before.fits;
   told = told_more s these those tries attempts r more are before;
   each = before.each;
-  allowed = λ some. omega (
-    arith,
-    before.allowed (some_before (opened_to s these) tries before some),
-    sized (opened_to s these) tries before.told,
-  );
+  allowed = subst (λ (xs : List AttemptRecord). xs ≢ [] → length xs < s.most)
+      (sym (tries_before tries attempts (record_of r) are)) before.allowed;
   over = λ may. over (may.0, subst (λ (n : ℕ). length attempts < n) limit may.1);
 }
 
@@ -141,19 +161,6 @@ may_or_not most made e = by (may_retry e.retry) refl
       | inr full ↦ inr (λ may. omega (arith, may.1, full))
     ]
 
--- all attempts but the last are those before it
-pub tries_behind : (tries : List AttemptRecord) (a : AttemptRecord)
-    → tries_of (tries ++ a ∷ []) ≡ tries
-tries_behind [] a = refl
-tries_behind (b ∷ []) a = refl
-tries_behind (b ∷ c ∷ tries) a =
-    ap (λ (xs : List AttemptRecord). b ∷ xs) (tries_behind (c ∷ tries) a)
-
-pub tries_before : (tries attempts : List AttemptRecord) (a : AttemptRecord)
-    → attempts ≡ tries ++ a ∷ [] → tries_of attempts ≡ tries
-tries_before tries attempts a are =
-    ap (λ (xs : List AttemptRecord). tries_of xs) are ∙ tries_behind tries a
-
 -- the attempts before another one are fewer than a request may make
 within : (s : Start) (tries : List AttemptRecord) → AreTries s tries → 1 ≤ s.most
     → length tries < s.most
@@ -175,22 +182,24 @@ with_last s tries attempts a are before some =
 none_made : (s : Start) (attempts : List AttemptRecord) → attempts ≡ [] → length attempts ≤ s.most
 none_made s attempts none = omega (arith, ap (λ (xs : List AttemptRecord). length xs) none)
 
+-- the last is one more than those before it
+last_counts : (a b : AttemptRecord) (xs : List AttemptRecord)
+    → length (a ∷ b ∷ xs) ≡ 1 + length (tries_of (a ∷ b ∷ xs))
+last_counts a b [] = refl
+last_counts a b (c ∷ xs) = omega (arith, last_counts b c xs)
+
 -- one of which the last was given no link
 ended_within : (s : Start) (attempts : List AttemptRecord) (e : Error) → EndsTrying s attempts e
     → 1 ≤ s.most → length attempts ≤ s.most
 ended_within s attempts e made some =
-    omega (
-      arith,
-      counted made.refused.before made.allowed,
-      sized s attempts made.told,
-      ap (λ (rs : List Refusal). length rs) made.refused.told,
-      length-append made.refused.before (made.refused.last ∷ []),
-    )
+    counted attempts made.allowed
   where
-    counted : (before : List Refusal) → (before ≢ [] → length before < s.most)
-        → length before < s.most
-    counted [] allowed = omega (arith, some)
-    counted (r ∷ before) allowed = allowed (λ none. cc)
+    -- all but the last are fewer than it may make
+    counted : (xs : List AttemptRecord) → (tries_of xs ≢ [] → length (tries_of xs) < s.most)
+        → length xs ≤ s.most
+    counted [] allowed = omega arith
+    counted (a ∷ []) allowed = omega (arith, some)
+    counted (a ∷ b ∷ xs) allowed = omega (arith, allowed (λ none. cc), last_counts a b xs)
 
 -- one that hooks ended
 ahead_within : (s : Start) (why : Option Error) (attempts : List AttemptRecord)

@@ -1,5 +1,5 @@
 //! What was done for a request: its attempts, and how much work they took.
-ghost use Rattle.std.specs.Prelude.{◌≡◌, [], ◌∷◌, ◌++◌, length, slice_get, vec_len, vec_capacity, IsTrue, OnErr, OnOk, IfOk, IfErr, IfSome, IsSome, ◌↔◌, ◌<◌};
+ghost use Rattle.std.specs.Prelude.{◌≡◌, ◌+◌, [], ◌∷◌, ◌++◌, length, slice_get, vec_len, vec_capacity, IsTrue, OnErr, OnOk, IfOk, IfErr, IfSome, IsSome, ◌↔◌, ◌<◌};
 
 use relay_tasks::{Error, Fault, Peer, PhaseLog};
 use std::alloc::{AllocError, Global};

@@ -11,7 +11,8 @@ returns-in-Ok-clause-run g c = λ s p w run sends.
     (begun g.L.ByteLink.state g.L.ByteLink.start s p w c.args.context c.args.session c.args.head
     c.args.link
     (record { exchange = c.in-Ok.exchange; lease = c.args.lease; context = c.args.context }) run
-    sends (rw c.into_inner.ensures at c.in-Ok.ensures.begins))
+    sends (rw c.into_inner.ensures at c.in-Ok.ensures.begins)
+    (rw c.into_inner.ensures at c.in-Ok.ensures.session))
 
 -- its head has a framing, so it is not begun for want of memory alone
 pub unbegun-requires : goal.unbegun-requires
