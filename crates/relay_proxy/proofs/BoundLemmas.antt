@@ -43,7 +43,7 @@ use Rattle.relay_proxy.specs.Uses.{Measured, work_by}
 use Rattle.relay_proxy.specs.declared.machine.Attempt.{Attempt}
 use Rattle.relay_proxy.specs.declared.machine.Lease.{Lease}
 use Rattle.relay_proxy.specs.declared.machine.Phase.{Phase}
-use Rattle.relay_proxy.specs.declared.machine.Phase.TheVariants.{ReadHead, Connect, Unlinked, Prepare, Relay, Broken, Fail, Close, Answer, Ended}
+use Rattle.relay_proxy.specs.declared.machine.Phase.TheVariants.{ReadHead, Connect, Unlinked, Prepare, Relay, Broken, Again, Fail, Close, Answer, Ended}
 use Rattle.relay_proxy.specs.declared.record.AttemptRecord.{AttemptRecord}
 use Rattle.relay_proxy.specs.declared.record.RunRecord.{RunRecord}
 use Rattle.relay_proxy.specs.declared.work.Work.{Work}
@@ -51,16 +51,19 @@ use Rattle.relay_proxy.proofs.UseLemmas.{either_rose}
 
 -- ---- the turns of a request
 
--- a request takes no more turns than its links answered, twice the bytes that they gave, six and
--- its attempts, and the calls of its hooks
+-- a request takes no more turns than its links answered, twice the bytes that the client's and its
+-- last one gave, six and its attempts, the calls of its hooks, and the tasks and ends of attempts
+-- before
 pub turns_bounded : {L : Type 0} (state : L → LinkState) (start_at : L → LinkStart) (s : Start)
-    (client : LinkState) (own : List (Returned L)) (history : RunRecord)
-    (b : IsBounded state start_at s client own history)
+    (client : LinkState) (earlier_tasks earlier_ends : ℕ) (own : List (Returned L))
+    (history : RunRecord)
+    (b : IsBounded state start_at s client earlier_tasks earlier_ends own history)
     → history.turns_taken
-    ≤ history.items_used + most_tasks (length s.ahead + length b.within.came) (length b.within.got)
-    + most_sides (length history.attempts) + length history.log
-turns_bounded state start_at s client own history b =
-    omega (arith, b.worked, b.within.tasks_within, b.within.ends_within)
+    ≤ history.items_used + (earlier_tasks
+    + most_tasks (length s.ahead + length b.within.came) (length b.within.got))
+    + (earlier_ends + most_sides (length history.attempts)) + length history.log
+turns_bounded state start_at s client earlier_tasks earlier_ends own history b =
+    omega (arith, b.worked, b.moved, b.ended, b.within.tasks_within, b.within.ends_within)
 
 -- the same attempts are as many
 as_many : {these those : List AttemptRecord} → these ≡ those → length these ≡ length those
@@ -152,6 +155,8 @@ module _ {L C : Type 0} (state : L → LinkState) (start_at : L → LinkStart) w
   open_counts tasks ends s client ahead own (Relay a) shut counts = counts
   open_counts tasks ends s client ahead own (Broken context session link lease keep e) shut counts =
       counts
+  open_counts tasks ends s client ahead own (Again context session link lease keep e) shut counts =
+      absurd (true≢false shut)
   open_counts tasks ends s client ahead own (Fail link lease keep session e) shut counts =
       absurd (true≢false shut)
   open_counts tasks ends s client ahead own (Close link lease keep outcome) shut counts =
@@ -197,6 +202,7 @@ module _ {L C : Type 0} (state : L → LinkState) (start_at : L → LinkStart) w
   head_bounds s p w (Relay a) work tasks ends run counts had = absurd counts
   head_bounds s p w (Broken context session link lease keep e) work tasks ends run counts had =
       absurd counts
+  head_bounds s p w (Again context session link lease keep e) work tasks ends run counts had = absurd counts
   head_bounds s p w (Fail link lease keep session e) work tasks ends run counts had = absurd counts
   head_bounds s p w (Close link lease keep outcome) work tasks ends run counts had = absurd counts
   head_bounds s p w (Answer session owed attempts) work tasks ends run counts had = record {
@@ -236,6 +242,8 @@ module _ {L C : Type 0} (state : L → LinkState) (start_at : L → LinkStart) w
     omega (arith, counts.1, as_many counts.2, had.1),
   )
   link_bounds s p w (Relay a) work before tasks ends run counts had = absurd counts
+  link_bounds s p w (Again context session link lease keep e) work before tasks ends run counts had =
+      absurd counts
   link_bounds s p w (Fail link lease keep session e) work before tasks ends run counts had =
       absurd counts
   link_bounds s p w (Broken context session link lease keep e) work before tasks ends run counts
@@ -295,6 +303,8 @@ module _ {L C : Type 0} (state : L → LinkState) (start_at : L → LinkStart) w
     tasks_are = omega (arith, counts.0, had.0);
     ends_are = omega (arith, counts.1, had.1, as_many counts.2);
   }
+  send_bounds s p w (Again context session link lease keep e) work before tasks ends run counts had =
+      absurd counts
   send_bounds s p w (Fail link lease keep session e) work before tasks ends run counts had =
       absurd counts
   send_bounds s p w (Broken context session link lease keep e) work before tasks ends run counts
@@ -335,6 +345,8 @@ module _ {L C : Type 0} (state : L → LinkState) (start_at : L → LinkStart) w
       absurd counts
   call_bounds s p w (Relay a) work before tasks ends run counts had = absurd counts
   call_bounds s p w (Broken context session link lease keep e) work before tasks ends run counts had =
+      absurd counts
+  call_bounds s p w (Again context session link lease keep e) work before tasks ends run counts had =
       absurd counts
   call_bounds s p w (Fail link lease keep session e) work before tasks ends run counts had =
       absurd counts
@@ -379,6 +391,15 @@ module _ {L C : Type 0} (state : L → LinkState) (start_at : L → LinkStart) w
       = absurd counts
   treat_bounds s these those client ahead own link lease (Broken context session l by keep e) work
       tasks ends counts leaves had = record {
+        came = had.came;
+        got = had.got;
+        client_gave = had.client_gave;
+        own_gave = subst (λ (k : L). LinkGave state start_at k had.got) (sym leaves.0) had.own_gave;
+        tasks_within = omega (arith, counts.0, had.tasks_within);
+        ends_within = omega (arith, counts.1, had.ends_within, same_tries leaves.1);
+      }
+  treat_bounds s these those client ahead own link lease (Again context session l by keep e) work tasks ends
+      counts leaves had = record {
         came = had.came;
         got = had.got;
         client_gave = had.client_gave;
@@ -443,6 +464,8 @@ module _ {L C : Type 0} (state : L → LinkState) (start_at : L → LinkStart) w
       absurd counts
   answer_bounds s client client' ahead own (Broken context session link lease keep e) work tasks ends
       same counts attempts is had = absurd counts
+  answer_bounds s client client' ahead own (Again context session link lease keep e) work tasks ends same
+      counts attempts is had = absurd counts
   answer_bounds s client client' ahead own (Fail link lease keep session e) work tasks ends same
       counts attempts is had = absurd counts
   answer_bounds s client client' ahead own (Close link lease keep outcome) work tasks ends same
@@ -564,6 +587,13 @@ module _ {L C : Type 0} (state : L → LinkState) (start_at : L → LinkStart) w
         tasks_within = omega (arith, w.tasks_within, before.tasks_are);
         ends_within = omega (arith, w.ends_within, before.ends_are, same_tries leaves.1);
       }
+      over_by w (Again context session link lease keep e) leaves = record {
+        came = w.came;
+        got = w.got;
+        client_gave = w.client_gave;
+        own_gave = subst (λ (l : L). LinkGave state start_at l w.got) (sym leaves.0) w.peer_gave;
+        tasks_within = omega (arith, w.tasks_within, before.tasks_are);
+        ends_within = omega (arith, w.ends_within, before.ends_are, same_tries leaves.1);
       over_by w (Fail link lease keep session e) leaves = record {
         came = w.came;
         got = w.got;
@@ -698,6 +728,9 @@ module _ {L C : Type 0} (state : L → LinkState) (start_at : L → LinkStart) w
       absurd run.holds
   relay_turn_bounds s p w x own (Broken context session link lease keep e) next tasks ends a b is run
       turn had =
+      absurd (true≢false (sym is))
+  relay_turn_bounds s p w x own (Again context session link lease keep e) next tasks ends a b is run turn
+      had =
       absurd (true≢false (sym is))
   relay_turn_bounds s p w x own (Fail link lease keep session e) next tasks ends a b is run turn
       had =

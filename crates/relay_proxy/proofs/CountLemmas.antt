@@ -69,9 +69,9 @@ both_counts n used client client' link link' start (inr (is, none)) asked =
     }
 
 -- what was counted before and in a step is the sum of all uses
-pub min_twice : (client own more_client more_own before used after : ℕ)
-    → before ≡ min (client + own) last_count → used ≡ more_client + more_own
+pub min_twice : (client earlier own more_client more_own before used after : ℕ)
+    → before ≡ min (client + (earlier + own)) last_count → used ≡ more_client + more_own
     → after ≡ min (before + used) last_count
-    → after ≡ min ((more_client + client) + (more_own + own)) last_count
-min_twice client own more_client more_own before used after so_far is adds =
+    → after ≡ min ((more_client + client) + (earlier + (more_own + own))) last_count
+min_twice client earlier own more_client more_own before used after so_far is adds =
     omega (arith, so_far, is, adds)

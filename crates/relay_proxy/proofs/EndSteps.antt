@@ -69,7 +69,7 @@ use Rattle.relay_proxy.specs.declared.calls.At.TheVariants as at
 use Rattle.relay_proxy.specs.declared.calls.Calls.{Calls}
 use Rattle.relay_proxy.specs.declared.finish.Ending.{Ending}
 use Rattle.relay_proxy.specs.declared.machine.Phase.{Phase}
-use Rattle.relay_proxy.specs.declared.machine.Phase.TheVariants.{ReadHead, Connect, Unlinked, Prepare, Relay, Broken, Fail, Close, Answer, Ended}
+use Rattle.relay_proxy.specs.declared.machine.Phase.TheVariants.{ReadHead, Connect, Unlinked, Prepare, Relay, Broken, Again, Fail, Close, Answer, Ended}
 use Rattle.relay_proxy.specs.declared.outcome.Outcome.{Outcome}
 use Rattle.relay_proxy.specs.declared.outcome.Outcome.TheVariants.{NoRequest, Refused, Served, TurnLimit, OutOfMemory}
 use Rattle.relay_proxy.specs.declared.record.AttemptRecord.{AttemptRecord}
@@ -122,6 +122,7 @@ ends_served (Unlinked context session attempts error) here goes_back is = absurd
 ends_served (Prepare context session link lease) here goes_back is = absurd (cc)
 ends_served (Relay a) here goes_back is = absurd (cc)
 ends_served (Broken context session link lease keep e) here goes_back is = absurd (cc)
+ends_served (Again context session link lease keep e) here goes_back is = absurd (cc)
 ends_served (Fail link lease keep session e) here goes_back is = absurd (cc)
 ends_served (Close link lease keep outcome) here goes_back is = absurd (cc)
 ends_served (Answer session owed attempts) here goes_back is = absurd (cc)
@@ -501,7 +502,7 @@ module _ {L C : Type 0} (state : L → LinkState) (start_at : L → LinkStart) w
       → PhaseCounts state start_at tasks ends t w.client w.ahead own phase)
       → StepsOn state start_at s t p w own returned returned told told has has w.client w.ahead was
       now phase phase
-  rests_on s t p w own returned told has was now phase run counts bounds = record {
+  rests_on s t p w own returned told has was now phase run counts bounds = StepsOn.goes (record {
     passed = p;
     handed = [];
     gained = more-nil returned;
@@ -544,7 +545,7 @@ module _ {L C : Type 0} (state : L → LinkState) (start_at : L → LinkStart) w
         (subst (λ (rs : List (Returned L)). PhaseCounts state start_at tasks ends t w.client w.ahead
         rs phase) (sym (append-nil own)) (bounds tasks ends counted)));
     rested = λ over. refl;
-  }
+  })
     where
       none_more : (n : ℕ) → n ≡ 0 + n
       none_more n = omega arith
@@ -987,6 +988,7 @@ module _ {C M K : Type 0} (allows : Standing → LogEntry → Type 0) (mark_of :
   phase_gives calls (Relay a) came is so_far = limit_gives calls came is
   phase_gives calls (Broken context session link lease keep error) came is so_far =
       limit_gives calls came is
+  phase_gives calls (Again context session link lease keep error) came is so_far = limit_gives calls came is
   phase_gives calls (Fail link lease keep session error) came is so_far = limit_gives calls came is
   phase_gives calls (Close link lease keep outcome) came is so_far =
       in_come calls came outcome is so_far
@@ -1087,6 +1089,8 @@ module _ {C M K : Type 0} (allows : Standing → LogEntry → Type 0) (mark_of :
   phase_keeps calls (Relay a) came is so_far some = limit_keeps calls came is some
   phase_keeps calls (Broken context session link lease keep error) came is so_far some =
       limit_keeps calls came is some
+  phase_keeps calls (Again context session link lease keep error) came is so_far some =
+      limit_keeps calls came is some
   phase_keeps calls (Fail link lease keep session error) came is so_far some =
       limit_keeps calls came is some
   phase_keeps calls (Close link lease keep outcome) came is so_far some =
@@ -1116,6 +1120,7 @@ finishes_came (Unlinked context session attempts error) before after ending does
 finishes_came (Prepare context session link lease) before after ending does = does.limit
 finishes_came (Relay a) before after ending does = does.limit
 finishes_came (Broken context session link lease keep error) before after ending does = does.limit
+finishes_came (Again context session link lease keep error) before after ending does = does.limit
 finishes_came (Fail link lease keep session error) before after ending does = does.limit
 finishes_came (Close link lease keep outcome) before after ending does = does.0
 finishes_came (Answer session owed attempts) before after ending does = does.limit
@@ -1162,6 +1167,7 @@ undone_limit (Prepare context session link lease) here came is undone = limited 
 undone_limit (Relay a) here came is undone = limited here came is
 undone_limit (Broken context session link lease keep error) here came is undone =
     limited here came is
+undone_limit (Again context session link lease keep error) here came is undone = limited here came is
 undone_limit (Fail link lease keep session error) here came is undone = limited here came is
 undone_limit (Close link lease keep outcome) here came is undone = absurd (true≢false undone)
 undone_limit (Answer session owed attempts) here came is undone = limited here came is
@@ -1223,6 +1229,8 @@ module _ {L C : Type 0} (state : L → LinkState) (start_at : L → LinkStart) w
       absurd (true≢false (sym done))
   done_gives tasks ends s client ahead own (Broken context session link lease keep e) here came
       outcome counts is given done over = absurd (true≢false (sym done))
+  done_gives tasks ends s client ahead own (Again context session link lease keep e) here came outcome counts
+      is given done over = absurd (true≢false (sym done))
   done_gives tasks ends s client ahead own (Fail link lease keep session e) here came outcome counts
       is given done over = absurd (true≢false (sym done))
   done_gives tasks ends s client ahead own (Close link lease keep end) here came outcome counts is

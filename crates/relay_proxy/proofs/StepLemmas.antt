@@ -1,7 +1,8 @@
 -- A step takes the run so far on, and the end adds up what it says.
 use Rattle.std.specs.Global.{Box}
-use Rattle.std.proofs.Common.{◌≡◌, ◌≢◌, ℕ, ◌+◌, ◌≤◌, Bool, true, false, List, [], ◌∷◌, ◌++◌, Option, None, Some, Ok, Err, map, true≢false, ◌⊎◌, refl, sym, ap, subst, ◌∙◌, inl, inr, append_assoc, append-nil, length, length-append, arith}
+use Rattle.std.proofs.Common.{◌≡◌, ◌≢◌, ℕ, ◌+◌, ◌≤◌, Bool, true, false, List, [], ◌∷◌, ◌++◌, Option, None, Some, Ok, Err, map, true≢false, ◌⊎◌, refl, sym, ap, subst, ◌∙◌, inl, inr, append_assoc, append-nil, length, min, arith}
 use Rattle.relay_links.specs.Connector.{Offer}
+use Rattle.relay_links.specs.Count.{last_count}
 use Rattle.relay_links.specs.Link.{LinkState, LinkStart, LinkItems}
 use Rattle.relay_links.specs.Told.{more, Gains}
 use Rattle.relay_links.specs.declared.Returned.{Returned}
@@ -18,13 +19,14 @@ use Rattle.relay_proxy.specs.Passed.{World, Start, origin_of, IsUnsent}
 use Rattle.relay_proxy.specs.Endings.{error_of, IsErrorOf, EndsLinked, EndsUnlinked, AttemptsUnfinished, AttemptsUnlinked, IsHalfRefused, EndsReturned, EndsWith}
 use Rattle.relay_proxy.specs.Owed.{IsGivenBack, IsAnswering, IsHalfGiven}
 use Rattle.relay_proxy.specs.Taken.{Takes, offers_for, offers_before, offers_of_turn}
+use Rattle.relay_proxy.specs.Legs.{Leg, RepeatsOn, rebased}
 use Rattle.relay_proxy.specs.Phases.{IsLeased, IsFailing, IsGoing, IsRelaying, RunSoFar}
 use Rattle.relay_proxy.specs.Refusals.{faults_for, faults_told, attempts_in, faults_before, faults_of_turn}
 use Rattle.relay_proxy.specs.Tries.{tries_in}
-use Rattle.relay_proxy.specs.Relaying.{is_closing}
-use Rattle.relay_proxy.specs.Request.{StepsOn}
+use Rattle.relay_proxy.specs.Relaying.{is_closing, is_relaying}
+use Rattle.relay_proxy.specs.Request.{BeginsAgain, GoesOn, StepsOn}
 use Rattle.relay_proxy.specs.Stock.{items_back, items_held}
-use Rattle.relay_proxy.specs.Turn.{Advances, HasMoved, HasCause, HandsOn, IsStalled, is_over, is_end, is_reading_head}
+use Rattle.relay_proxy.specs.Turn.{Advances, HasMoved, HasCause, HandsOn, IsAgain, IsStalled, is_linked, is_over, is_end, is_reading_head}
 use Rattle.relay_proxy.specs.Uses.{LinkUses, OwesAnswer, OwnUses, PhaseUses, TurnCounts}
 use Rattle.relay_proxy.specs.Work.{added_work}
 use Rattle.relay_proxy.specs.Closing.{Hands, HandsBack, Settles, GivesUp, GivesFailedUp, AnswersOn, Finishes, IsQuietExchange, IsQuiet, Rests, TurnOf, Ends}
@@ -33,6 +35,7 @@ use Rattle.relay_proxy.proofs.TakenLemmas.{offers_are}
 use Rattle.relay_proxy.proofs.TryLemmas.{tries_before}
 use Rattle.relay_proxy.proofs.BoundLemmas.{open_counts, within_link}
 use Rattle.relay_proxy.proofs.ConnectSteps.{part_relayed}
+use Rattle.relay_proxy.proofs.LegLemmas.{anew, begins_of, is_leg_of, leg_of, length_behind, run_again, unfaulted_same}
 use Rattle.relay_proxy.proofs.AnswerSteps.{answering_of, ends_part, waits_front, waits_left}
 use Rattle.relay_proxy.proofs.TurnLemmas.{unlinked_open, unlinked_items, answer_offers}
 use Rattle.relay_proxy.proofs.UseLemmas.{owes_settled}
@@ -40,7 +43,7 @@ use Rattle.relay_proxy.specs.declared.finish.Ending.{Ending}
 use Rattle.relay_proxy.specs.declared.machine.Attempt.{Attempt}
 use Rattle.relay_proxy.specs.declared.machine.Lease.{Lease}
 use Rattle.relay_proxy.specs.declared.machine.Phase.{Phase}
-use Rattle.relay_proxy.specs.declared.machine.Phase.TheVariants.{ReadHead, Connect, Unlinked, Prepare, Relay, Broken, Fail, Close, Answer, Ended}
+use Rattle.relay_proxy.specs.declared.machine.Phase.TheVariants.{ReadHead, Connect, Unlinked, Prepare, Relay, Broken, Again, Fail, Close, Answer, Ended}
 use Rattle.relay_proxy.specs.declared.machine.RunStep.{RunStep}
 use Rattle.relay_proxy.specs.declared.machine.RunStep.TheVariants as step
 use Rattle.relay_proxy.specs.declared.outcome.Outcome.{Outcome}
@@ -138,12 +141,6 @@ module _ {L : Type 0} (state : L → LinkState) (start_at : L → LinkStart) whe
       → IsQuiet state start_at s p w own
   quiet_answer s p w [] half silent = inr (half, silent)
   quiet_answer s p w (r ∷ own) half silent = inr (half, silent)
-
--- one attempt more is one more
-length_behind : (tries attempts : List AttemptRecord) (a : AttemptRecord)
-    → attempts ≡ tries ++ a ∷ [] → length attempts ≡ 1 + length tries
-length_behind tries attempts a are =
-    omega (arith, ap (λ (xs : List AttemptRecord). length xs) are, length-append tries (a ∷ []))
 
 -- more ends may come
 more_room : (tasks ends made : ℕ) (s : Start) (client : LinkState) (gave : List ℕ → Type 0)
@@ -251,6 +248,8 @@ module _ {L C : Type 0} (state : L → LinkState) (start_at : L → LinkStart) w
       stays s p w (Answer session owed attempts) settled before after does.0 does.1 refl run
   settle_run s p w (Broken context session link lease keep e) settled before after does run =
       stays s p w (Broken context session link lease keep e) settled before after does.0 does.1 refl run
+  settle_run s p w (Again context session link lease keep e) settled before after does run =
+      absurd run.holds
   settle_run s p w (Fail link lease keep session e) settled before after does run = record {
     handed = does.2.entry ∷ [];
     gained = does.2.gained;
@@ -330,6 +329,8 @@ module _ {L C : Type 0} (state : L → LinkState) (start_at : L → LinkStart) w
   settles_same (Prepare context session link lease) settled before after does shut = does
   settles_same (Relay a) settled before after does shut = does
   settles_same (Broken context session link lease keep e) settled before after does shut = does
+  settles_same (Again context session link lease keep e) settled before after does shut =
+      absurd (true≢false shut)
   settles_same (Fail link lease keep session e) settled before after does shut =
       absurd (true≢false shut)
   settles_same (Close link lease keep outcome) settled before after does shut =
@@ -337,10 +338,25 @@ module _ {L C : Type 0} (state : L → LinkState) (start_at : L → LinkStart) w
   settles_same (Answer session owed attempts) settled before after does shut = does
   settles_same (Ended outcome attempts) settled before after does shut = does
 
-  -- one that has not ended stays so, or its client is owed an answer then
+  -- another attempt follows, whose link was to be handed back
+  record GoesAgain (next settled : Phase L C) : Type 0 where
+    context : C
+    session : Box HttpSession
+    link : L
+    lease : Lease
+    keep : Bool
+    e : Error
+    is : next ≡ Again context session link lease keep e
+    attempts : List AttemptRecord
+    settles : settled ≡ Connect context session attempts
+    attempt : AttemptRecord
+    are : attempts ≡ tries_in lease ++ attempt ∷ []
+
+  -- one that has not ended stays so, or its client is owed an answer then, or another attempt
+  -- follows
   settles_live : (next settled : Phase L C) (before after : Option (List (Returned L)))
       → Settles next before after settled → is_over next ≡ false
-      → (settled ≡ next) ⊎ (OwesAnswer next × OwesAnswer settled)
+      → (settled ≡ next) ⊎ ((OwesAnswer next × OwesAnswer settled) ⊎ GoesAgain next settled)
   settles_live ReadHead settled before after does going = inl does.0
   settles_live (Connect context session tries) settled before after does going = inl does.0
   settles_live (Unlinked context session attempts error) settled before after does going = inl does.0
@@ -348,17 +364,38 @@ module _ {L C : Type 0} (state : L → LinkState) (start_at : L → LinkStart) w
   settles_live (Relay a) settled before after does going = inl does.0
   settles_live (Broken context session link lease keep e) settled before after does going =
       inl does.0
+  settles_live (Again context session link lease keep e) settled before after does going =
+      inr (inr (record {
+        context = context;
+        session = session;
+        link = link;
+        lease = lease;
+        keep = keep;
+        e = e;
+        is = refl;
+        attempts = does.0;
+        settles = does.1;
+        attempt = does.2.hands.attempt;
+        are = does.2.hands.attempts_are;
+      }))
   settles_live (Fail link lease keep session e) settled before after does going =
-      inr (
+      inr (inl (
         tt,
         owes_settled state start_at (Fail link lease keep session e) settled before after
             does tt,
-      )
+      ))
   settles_live (Close link lease keep outcome) settled before after does going =
       absurd (true≢false going)
   settles_live (Answer session owed attempts) settled before after does going = inl does.0
   settles_live (Ended outcome attempts) settled before after does going =
       absurd (true≢false going)
+
+  -- a phase from which no link goes back is no other one
+  again_else : (k : Phase L C) → is_closing k ≡ false → (context : C) (session : Box HttpSession)
+      (link : L) (lease : Lease) (keep : Bool) (e : Error)
+      → k ≡ Again context session link lease keep e → ⊥
+  again_else k shut context session link lease keep e is =
+      true≢false (sym (ap (λ (n : Phase L C). is_closing n) is) ∙ shut)
 
   -- a turn that moved and owes the client an answer moved whatever it owes it by
   owes_moved : (w x : World) (phase next settled : Phase L C) → OwesAnswer next
@@ -373,6 +410,7 @@ module _ {L C : Type 0} (state : L → LinkState) (start_at : L → LinkStart) w
       owing (Prepare context session link lease) o = refl
       owing (Relay a) o = refl
       owing (Broken context session link lease keep e) o = refl
+      owing (Again context session link lease keep e) o = absurd o
       owing (Fail link lease keep session e) o = refl
       owing (Close link lease keep outcome) o = refl
       owing (Answer session owed attempts) o = refl
@@ -382,11 +420,75 @@ module _ {L C : Type 0} (state : L → LinkState) (start_at : L → LinkStart) w
   owes_moved w x (Unlinked context session attempts error) next settled owes owes' moved = owes'
   owes_moved w x (Prepare context session link lease) next settled owes owes' moved = inr owes'
   owes_moved w x (Relay a) next settled owes owes' moved = inr owes'
-  owes_moved w x (Broken context session link lease keep e) next settled owes owes' moved = owes'
+  owes_moved w x (Broken context session link lease keep e) next settled owes owes' moved = inl owes'
+  owes_moved w x (Again context session link lease keep e) next settled owes owes' moved =
+      absurd (none next owes moved)
+    where
+      none : (k : Phase L C) → OwesAnswer k → IsAgain state start_at (tries_in lease) k → ⊥
+      none ReadHead o i = i
+      none (Connect context session tries) o i = o
+      none (Unlinked context session attempts error) o i = i
+      none (Prepare context session link lease) o i = i
+      none (Relay a) o i = i
+      none (Broken context session link lease keep e) o i = i
+      none (Again context session link lease keep e) o i = o
+      none (Fail link lease keep session e) o i = i
+      none (Close link lease keep outcome) o i = i
+      none (Answer session owed attempts) o i = i
+      none (Ended outcome attempts) o i = i
   owes_moved w x (Fail link lease keep session e) next settled owes owes' moved = owes'
   owes_moved w x (Close link lease keep outcome) next settled owes owes' moved = absurd moved
   owes_moved w x (Answer session owed attempts) next settled owes owes' moved = moved
   owes_moved w x (Ended outcome attempts) next settled owes owes' moved = absurd moved
+
+  -- what is again behind those attempts is still, once its link was handed back
+  again_settled : (tries : List AttemptRecord) (next settled : Phase L C) → GoesAgain next settled
+      → IsAgain state start_at tries next → IsAgain state start_at tries settled
+  again_settled tries next settled g again =
+      let same : tries_in g.lease ≡ tries =
+      subst (λ (k : Phase L C). IsAgain state start_at tries k) g.is again in
+      subst (λ (k : Phase L C). IsAgain state start_at tries k) (sym g.settles) (
+        g.attempt,
+        g.are ∙ ap (λ (xs : List AttemptRecord). xs ++ g.attempt ∷ []) same,
+      )
+
+  -- a turn that moved so that another attempt follows moved whatever its link is
+  again_moved : (w x : World) (phase next settled : Phase L C) → GoesAgain next settled
+      → HasMoved state start_at w x phase next → HasMoved state start_at w x phase settled
+  again_moved w x ReadHead next settled g moved =
+      inr (ap (λ (k : Phase L C). is_reading_head k) g.settles)
+  again_moved w x (Connect context session tries) next settled g (inl linked) =
+      absurd (true≢false (sym linked ∙ ap (λ (k : Phase L C). is_linked k) g.is))
+  again_moved w x (Connect context session tries) next settled g (inr (inl on)) =
+      absurd (again_else (Connect on.context on.session (tries ++ on.attempt ∷ [])) refl g.context
+      g.session g.link g.lease g.keep g.e (sym on.again ∙ g.is))
+  again_moved w x (Connect context session tries) next settled g (inr (inr (inl on))) =
+      absurd (again_else (Connect on.context on.session tries) refl g.context g.session g.link
+      g.lease g.keep g.e (sym on.goes_on ∙ g.is))
+  again_moved w x (Connect context session tries) next settled g (inr (inr (inr owes))) =
+      absurd (subst (λ (k : Phase L C). OwesAnswer k) g.is owes)
+  again_moved w x (Unlinked context session attempts error) next settled g moved =
+      absurd (subst (λ (k : Phase L C). OwesAnswer k) g.is moved)
+  again_moved w x (Prepare context session link lease) next settled g (inl relays) =
+      absurd (true≢false (sym relays ∙ ap (λ (k : Phase L C). is_relaying k) g.is))
+  again_moved w x (Prepare context session link lease) next settled g (inr owes) =
+      absurd (subst (λ (k : Phase L C). OwesAnswer k) g.is owes)
+  again_moved w x (Relay a) next settled g (inl moved) =
+      absurd (again_else (Relay moved.1.held) refl g.context g.session g.link g.lease g.keep g.e
+      (sym moved.1.goes_on ∙ g.is))
+  again_moved w x (Relay a) next settled g (inr owes) =
+      absurd (subst (λ (k : Phase L C). OwesAnswer k) g.is owes)
+  again_moved w x (Broken context session link lease keep e) next settled g (inl owes) =
+      absurd (subst (λ (k : Phase L C). OwesAnswer k) g.is owes)
+  again_moved w x (Broken context session link lease keep e) next settled g (inr again) =
+      inr (again_settled (tries_in lease) next settled g again)
+  again_moved w x (Again context session link lease keep e) next settled g again =
+      again_settled (tries_in lease) next settled g again
+  again_moved w x (Fail link lease keep session e) next settled g moved =
+      absurd (subst (λ (k : Phase L C). OwesAnswer k) g.is moved)
+  again_moved w x (Close link lease keep outcome) next settled g moved = absurd moved
+  again_moved w x (Answer session owed attempts) next settled g moved = moved
+  again_moved w x (Ended outcome attempts) next settled g moved = absurd moved
 
   -- the cause of a turn is that of the step
   pub settled_cause : (w x : World) (phase next settled : Phase L C) (did : RunStep)
@@ -398,7 +500,8 @@ module _ {L C : Type 0} (state : L → LinkState) (start_at : L → LinkStart) w
       elim (settles_live next settled before after does over) [
         | inl same ↦ subst (λ (n : Phase L C). HasCause state start_at w x phase n step.Moved)
             (sym same) cause
-        | inr owes ↦ owes_moved w x phase next settled owes.0 owes.1 cause
+        | inr (inl owes) ↦ owes_moved w x phase next settled owes.0 owes.1 cause
+        | inr (inr again) ↦ again_moved w x phase next settled again cause
       ]
   settled_cause w x phase next settled (step.Waited pause) before after does over waits cause =
       subst (λ (n : Phase L C). HasCause state start_at w x phase n (step.Waited pause))
@@ -426,7 +529,7 @@ module _ {L C : Type 0} (state : L → LinkState) (start_at : L → LinkStart) w
       → PhaseCounts {C = C} state start_at tasks ends s client ahead [] phase
       → TurnedCounts {C = C} state start_at (extra.moved + tasks) (extra.ended + ends) s' x.client
       x.ahead [] next)
-      → StepsOn state start_at s s' p x [] before after told_before told_after had has client ahead
+      → GoesOn state start_at s s' p x [] before after told_before told_after had has client ahead
       was now phase settled
   live_on s s' p x phase next settled before mid after told_before told_after had has live turn kept
       does told takes carries tells client ahead was now extra adds uses bounds =
@@ -474,7 +577,7 @@ module _ {L C : Type 0} (state : L → LinkState) (start_at : L → LinkStart) w
       → PhaseCounts {C = C} state start_at tasks ends s client ahead own (Ended outcome attempts)
       → TurnedCounts {C = C} state start_at (extra.moved + tasks) (extra.ended + ends) s x.client
       x.ahead own next)
-      → StepsOn {C = C} state start_at s s p x own before after told_before told_after had has client
+      → GoesOn {C = C} state start_at s s p x own before after told_before told_after had has client
       ahead was now (Ended outcome attempts) settled
   ended_on s p own w x outcome attempts next settled did before mid after told_before told_after
       had has rests kept does told takes run client ahead was now extra adds uses bounds =
@@ -535,7 +638,7 @@ module _ {L C : Type 0} (state : L → LinkState) (start_at : L → LinkStart) w
       → (client : LinkState) (ahead : List ℕ) (was now extra : Work) → now ≡ added_work was extra
       → ((n : ℕ) → PhaseUses {C = C} state start_at n [] (Close link lease keep outcome)
       → TurnCounts state start_at n client x.client extra.used [] next)
-      → StepsOn state start_at s s p x [] before after told_before told_after had has client ahead
+      → GoesOn state start_at s s p x [] before after told_before told_after had has client ahead
       was now (Close link lease keep outcome) settled
   closed_on s p w x link lease keep outcome next settled did before mid after told_before told_after
       had has rests kept does told takes run client ahead was now extra adds uses =
@@ -587,7 +690,7 @@ module _ {L C : Type 0} (state : L → LinkState) (start_at : L → LinkStart) w
       (Answer session owes attempts)
       → TurnedCounts {C = C} state start_at (extra.moved + tasks) (extra.ended + ends) s' x.client
       x.ahead own next)
-      → StepsOn state start_at s s' p x own before after told_before told_after had has client ahead
+      → GoesOn state start_at s s' p x own before after told_before told_after had has client ahead
       was now (Answer session owes attempts) settled
   answer_step s s' p own x session owes attempts next settled before mid after told_before told_after
       had has turn kept does told takes client ahead was now extra adds uses bounds =
@@ -644,6 +747,91 @@ module _ {L C : Type 0} (state : L → LinkState) (start_at : L → LinkStart) w
         rested = λ over. absurd (true≢false (sym over));
       }
 
+  -- a turn behind which another attempt follows, settled, is a step
+  again_on : (s s' : Start) (x : World) (phase next settled : Phase L C)
+      (before mid after : Option (List (Returned L))) (told_before told_after : Option (List Fault))
+      (had has : Option (List Offer)) → is_over phase ≡ false
+      → RepeatsOn state start_at s' x next → mid ≡ before → Settles next mid after settled
+      → Gains told_before (faults_of_turn phase next) told_after
+      → Takes had (offers_of_turn start_at phase next) has
+      → offers_before start_at [] phase ++ offers_of_turn start_at phase next
+      ≡ offers_before start_at [] next
+      → faults_before [] phase ++ faults_of_turn phase next ≡ faults_before [] next
+      → (client : LinkState) (ahead : List ℕ) (was now extra : Work) → now ≡ added_work was extra
+      → ((n : ℕ) → PhaseUses state start_at n [] phase
+      → TurnCounts state start_at n client x.client extra.used [] next)
+      → ((tasks ends : ℕ)
+      → PhaseCounts {C = C} state start_at tasks ends s client ahead [] phase
+      → TurnedCounts {C = C} state start_at (extra.moved + tasks) (extra.ended + ends) s' x.client
+      x.ahead [] next)
+      → BeginsAgain state start_at s s' x [] before after told_before told_after had has client ahead
+      was now phase settled
+  again_on s s' x phase next settled before mid after told_before told_after had has live r kept
+      does told takes carries tells client ahead was now extra adds uses bounds =
+      let back = (subst (λ (k : Phase L C). Settles k mid after settled) r.is does).2 in
+      let attempts = (subst (λ (k : Phase L C). Settles k mid after settled) r.is does).0 in
+      let is : settled ≡ Connect r.context r.session attempts =
+      (subst (λ (k : Phase L C). Settles k mid after settled) r.is does).1 in
+      let leg = leg_of state start_at s' x next r back.entry attempts back.hands in
+      record {
+        going = live;
+        none = refl;
+        leg = leg;
+        is_leg = is_leg_of state start_at s' x next r back.entry attempts back.hands;
+        begins = begins_of state start_at s' x next r back.entry attempts back.hands;
+        stands = refl;
+        gained = back.gained
+            ∙ ap (λ (t : Option (List (Returned L))). more t (back.entry ∷ [])) kept;
+        context = r.context;
+        session = r.session;
+        connects = is ∙ ap (λ (xs : List AttemptRecord). Connect r.context r.session xs)
+            back.hands.attempts_are;
+        passed = anew state start_at s' x next r back.entry attempts back.hands;
+        run = subst (λ (k : Phase L C). RunSoFar state start_at (rebased s' leg)
+            (anew state start_at s' x next r back.entry attempts back.hands) x [] k) (sym is)
+            (run_again state start_at s' x next r back.entry attempts back.hands);
+        refused = record {
+          faults = faults_of_turn phase next;
+          gained = told;
+          are = tells ∙ ap (λ (k : Phase L C). faults_before [] k) r.is
+              ∙ sym (unfaulted_same (tries_in r.lease) attempts back.hands.attempt
+              back.hands.attempts_are back.hands.unfaulted)
+              ∙ ap (λ (k : Phase L C). faults_before [] k) (sym is);
+        };
+        taken = offers_of_turn start_at phase next;
+        takes = takes;
+        offered = carries ∙ ap (λ (k : Phase L C). offers_before start_at [] k) r.is
+            ∙ ap (λ (l : L). map Err (faults_told (tries_in r.lease)) ++ Ok (start_at l).items ∷ [])
+            (sym back.hands.is_link);
+        uses = λ n had.
+            let turn = subst (λ (k : Phase L C). TurnCounts state start_at n client x.client
+            extra.used [] k) r.is (uses n had) in
+            record {
+              of_client = turn.of_client;
+              of_own = turn.of_own;
+              client_rose = turn.client_rose;
+              own_rose = subst (λ (l : L). LinkUses state start_at (turn.of_own + n) l)
+                  (sym back.hands.is_link) turn.own_rose;
+              adds = ap (λ (k : Work). k.used) adds
+                  ∙ ap (λ (k : ℕ). min (was.used + k) last_count) turn.all;
+            };
+        unused = subst (λ (k : Phase L C). PhaseUses state start_at 0 [] k) (sym is) refl;
+        work = extra;
+        adds = adds;
+        bounded = λ tasks ends counted. subst (λ (l : L).
+            IsWithin (extra.moved + tasks) (extra.ended + ends)
+            (sides_before (1 + length (tries_in r.lease))) s' x.client (LinkGave state start_at l))
+            (sym back.hands.is_link)
+            (subst (λ (k : Phase L C). TurnedCounts state start_at (extra.moved + tasks)
+            (extra.ended + ends) s' x.client x.ahead [] k) r.is (bounds tasks ends counted));
+        counts = subst (λ (k : Phase L C). PhaseCounts state start_at 0
+            (2 + length (tries_in r.lease)) (rebased s' leg) x.client x.ahead [] k) (sym is)
+            (refl, omega (
+              arith,
+              length_behind (tries_in r.lease) attempts back.hands.attempt back.hands.attempts_are,
+            ));
+      }
+
   -- a step takes the run so far on
   pub step_on : (s s' : Start) (p : Passed) (own : List (Returned L)) (w x : World)
       (phase next settled : Phase L C) (did : RunStep)
@@ -671,38 +859,47 @@ module _ {L C : Type 0} (state : L → LinkState) (start_at : L → LinkStart) w
       was now phase settled
   step_on s s' p [] w x ReadHead next settled did before mid after t u h k
       turn same rests kept does told takes carries tells run c i j o m adds uses bounds =
-      live_on s s' p x ReadHead next settled before mid after t u h k refl
-      (turn run) kept does told takes (carries refl) (tells refl) c i j o m adds uses bounds
+      StepsOn.goes (live_on s s' p x ReadHead next settled before mid after t u h k refl
+      (turn run) kept does told takes (carries refl) (tells refl) c i j o m adds uses bounds)
   step_on s s' p [] w x (Connect context session tries) next settled did before mid after t u h k
       turn same rests kept does told takes carries tells run c i j o m adds uses bounds =
-      live_on s s' p x (Connect context session tries) next settled before mid after t u h k refl
-      (turn run) kept does told takes (carries refl) (tells refl) c i j o m adds uses bounds
+      StepsOn.goes (live_on s s' p x (Connect context session tries) next settled before mid after t u h k refl
+      (turn run) kept does told takes (carries refl) (tells refl) c i j o m adds uses bounds)
   step_on s s' p [] w x (Unlinked context session attempts error) next settled did before mid after t u h k
       turn same rests kept does told takes carries tells run c i j o m adds uses bounds =
-      live_on s s' p x (Unlinked context session attempts error) next settled before mid after t u h k refl
-      (turn run) kept does told takes (carries refl) (tells refl) c i j o m adds uses bounds
+      StepsOn.goes (live_on s s' p x (Unlinked context session attempts error) next settled before mid after t u h k refl
+      (turn run) kept does told takes (carries refl) (tells refl) c i j o m adds uses bounds)
   step_on s s' p [] w x (Prepare context session link lease) next settled did before mid after t u h k
       turn same rests kept does told takes carries tells run c i j o m adds uses bounds =
-      live_on s s' p x (Prepare context session link lease) next settled before mid after t u h k refl
-      (turn run) kept does told takes (carries refl) (tells refl) c i j o m adds uses bounds
+      StepsOn.goes (live_on s s' p x (Prepare context session link lease) next settled before mid after t u h k refl
+      (turn run) kept does told takes (carries refl) (tells refl) c i j o m adds uses bounds)
   step_on s s' p [] w x (Relay a) next settled did before mid after t u h k
       turn same rests kept does told takes carries tells run c i j o m adds uses bounds =
-      live_on s s' p x (Relay a) next settled before mid after t u h k refl
-      (turn run) kept does told takes (carries refl) (tells refl) c i j o m adds uses bounds
-  step_on s s' p [] w x (Broken context session link lease keep e) next settled did before mid after t u
-      h k turn same rests kept does told takes carries tells run c i j o m adds uses bounds =
-      live_on s s' p x (Broken context session link lease keep e) next settled before mid after t u h k
-      refl (turn run) kept does told takes (carries refl) (tells refl) c i j o m adds uses bounds
+      StepsOn.goes (live_on s s' p x (Relay a) next settled before mid after t u h k refl
+      (turn run) kept does told takes (carries refl) (tells refl) c i j o m adds uses bounds)
+  step_on s s' p [] w x (Broken context session link lease keep e) next settled did before mid after
+      t u h k turn same rests kept does told takes carries tells run c i j o m adds uses bounds =
+      elim (turn run) [
+        | inl goes ↦ StepsOn.goes (live_on s s' p x (Broken context session link lease keep e) next
+            settled before mid after t u h k refl goes kept does told takes (carries refl)
+            (tells refl) c i j o m adds uses bounds)
+        | inr repeats ↦ StepsOn.again (again_on s s' x
+            (Broken context session link lease keep e) next settled before mid after t u h k refl
+            repeats kept does told takes (carries refl) (tells refl) c i j o m adds uses bounds)
+      ]
+  step_on s s' p [] w x (Again context session link lease keep e) next settled did before mid after
+      t u h k turn same rests kept does told takes carries tells run c i j o m adds uses bounds =
+      absurd run.holds
   step_on s s' p [] w x (Fail link lease keep session e) next settled did before mid after t u h k
       turn same rests kept does told takes carries tells run c i j o m adds uses bounds =
-      live_on s s' p x (Fail link lease keep session e) next settled before mid after t u h k refl
-      (turn run) kept does told takes (carries refl) (tells refl) c i j o m adds uses bounds
+      StepsOn.goes (live_on s s' p x (Fail link lease keep session e) next settled before mid after t u h k refl
+      (turn run) kept does told takes (carries refl) (tells refl) c i j o m adds uses bounds)
   step_on s s' p [] w x (Close link lease keep outcome) next settled did before mid after t u h k
       turn same rests kept does told takes carries tells run c i j o m adds uses bounds =
       subst (λ (r : Start). StepsOn {C = C} state start_at s r p x [] before after t u h k c i j o
       (Close link lease keep outcome) settled) (sym (same refl))
-      (closed_on s p w x link lease keep outcome next settled did before mid after t u h k rests
-      kept does told takes run c i j o m adds uses)
+      (StepsOn.goes (closed_on s p w x link lease keep outcome next settled did before mid after t u h k rests
+      kept does told takes run c i j o m adds uses))
   step_on s s' p (r ∷ own) w x ReadHead next settled did before mid after t u
       h k turn same rests kept does told takes carries tells run c i j o m adds uses bounds =
       absurd run.holds
@@ -721,6 +918,9 @@ module _ {L C : Type 0} (state : L → LinkState) (start_at : L → LinkStart) w
   step_on s s' p (r ∷ own) w x (Broken context session link lease keep e) next settled did before mid
       after t u h k turn same rests kept does told takes carries tells run c i j o m adds uses bounds =
       absurd run.holds
+  step_on s s' p (r ∷ own) w x (Again context session link lease keep e) next settled did before mid after t u
+      h k turn same rests kept does told takes carries tells run c i j o m adds uses bounds =
+      absurd run.holds
   step_on s s' p (r ∷ own) w x (Fail link lease keep session e) next settled did before mid after t u
       h k turn same rests kept does told takes carries tells run c i j o m adds uses bounds =
       absurd run.holds
@@ -729,8 +929,8 @@ module _ {L C : Type 0} (state : L → LinkState) (start_at : L → LinkStart) w
       absurd run.holds
   step_on s s' p own w x (Answer session owes attempts) next settled did before mid after t u h k
       turn same rests kept does told takes carries tells run c i j o m adds uses bounds =
-      answer_step s s' p own x session owes attempts next settled before mid after t u h k (turn run)
-      kept does told takes c i j o m adds uses bounds
+      StepsOn.goes (answer_step s s' p own x session owes attempts next settled before mid after t u h k (turn run)
+      kept does told takes c i j o m adds uses bounds)
   step_on s s' p own w x (Ended outcome attempts) next settled did before mid after t u h k
       turn same rests kept does told takes carries tells run c i j o m adds uses bounds =
       let back : (r : Start) → r ≡ s → ((tasks ends : ℕ)
@@ -741,10 +941,10 @@ module _ {L C : Type 0} (state : L → LinkState) (start_at : L → LinkStart) w
       (Ended outcome attempts) settled =
       λ r is counts. subst (λ (q : Start). StepsOn {C = C} state start_at s q p x own before after t
       u h k c i j o (Ended outcome attempts) settled) (sym is)
-      (ended_on s p own w x outcome attempts next settled did before mid after t u h k rests kept
+      (StepsOn.goes (ended_on s p own w x outcome attempts next settled did before mid after t u h k rests kept
       does told takes run c i j o m adds uses
       (λ tasks ends had. subst (λ (q : Start). TurnedCounts {C = C} state start_at (m.moved + tasks)
-      (m.ended + ends) q x.client x.ahead own next) is (counts tasks ends had))) in
+      (m.ended + ends) q x.client x.ahead own next) is (counts tasks ends had)))) in
       back s' (same refl) bounds
 
   -- an attempt in which all that can be done asks a silent link
@@ -1053,6 +1253,8 @@ module _ {L C : Type 0} (state : L → LinkState) (start_at : L → LinkStart) w
       (λ h. absurd h) refl refl (λ n asked. asked)
       (λ tasks ends counted. more_room tasks ends (1 + length (tries_in lease)) s w.client
       (LinkGave state start_at link) counted)
+  end_of s p [] w (Again context session link lease keep e) before after ending does run =
+      absurd run.holds
   end_of s p [] w (Fail link lease keep session e) before after ending does run =
       failed_end s p w link lease keep session e before after ending does run
   end_of s p [] w (Ended outcome attempts) before after ending does run =
@@ -1061,6 +1263,8 @@ module _ {L C : Type 0} (state : L → LinkState) (start_at : L → LinkStart) w
       answered_end s p w own session owes attempts before after ending does run
   end_of s p (r ∷ own) w ReadHead before after ending does run = absurd run.holds
   end_of s p (r ∷ own) w (Broken context session link lease keep e) before after ending does run =
+      absurd run.holds
+  end_of s p (r ∷ own) w (Again context session link lease keep e) before after ending does run =
       absurd run.holds
   end_of s p (r ∷ own) w (Fail link lease keep session e) before after ending does run =
       absurd run.holds
@@ -1083,6 +1287,8 @@ module _ {L C : Type 0} (state : L → LinkState) (start_at : L → LinkStart) w
       → ending.outcome ≢ TurnLimit
   over_end ReadHead before after ending going does over = absurd (true≢false (sym over))
   over_end (Broken context session link lease keep e) before after ending going does over =
+      absurd (true≢false (sym over))
+  over_end (Again context session link lease keep e) before after ending going does over =
       absurd (true≢false (sym over))
   over_end (Fail link lease keep session e) before after ending going does over =
       absurd (true≢false (sym over))

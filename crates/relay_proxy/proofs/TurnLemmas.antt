@@ -1,5 +1,5 @@
 -- What a turn of a phase that relays is, of the phase as it stands.
-use Rattle.std.proofs.Common.{◌≡◌, ℕ, ◌+◌, ◌∷◌, subst, arith, Bool, true, false, List, [], ◌++◌, map, Ok, Err, Option, true≢false, refl, sym, ap, ◌∙◌, append-nil}
+use Rattle.std.proofs.Common.{◌≡◌, ◌⊎◌, ℕ, ◌+◌, ◌∷◌, subst, arith, Bool, true, false, List, [], ◌++◌, map, Ok, Err, Option, true≢false, refl, sym, ap, ◌∙◌, append-nil}
 use Rattle.std.specs.Global.{Box}
 use Rattle.relay_tasks.specs.declared.Error.{Error}
 use Rattle.relay_tasks.specs.declared.Fault.{Fault}
@@ -15,6 +15,7 @@ use Rattle.relay_attempt.specs.Passed.{Passed}
 use Rattle.relay_session.specs.declared.session.HttpSession.{HttpSession}
 use Rattle.relay_proxy.specs.Bound.{CountsCall, PhaseCounts, TurnedCounts}
 use Rattle.relay_proxy.specs.Calls.{IsUnended}
+use Rattle.relay_proxy.specs.Legs.{RepeatsOn}
 use Rattle.relay_proxy.specs.Passed.{World, Start, called_to, opened_to, origin_of}
 use Rattle.relay_proxy.specs.Phases.{RunSoFar}
 use Rattle.relay_proxy.specs.Uses.{ClientUses, LinkUses, OwnUses, PhaseUses, TurnCounts}
@@ -31,7 +32,7 @@ use Rattle.relay_proxy.proofs.UseLemmas.{relaying_of}
 use Rattle.relay_proxy.specs.declared.machine.Attempt.{Attempt}
 use Rattle.relay_proxy.specs.declared.machine.Lease.{Lease}
 use Rattle.relay_proxy.specs.declared.machine.Phase.{Phase}
-use Rattle.relay_proxy.specs.declared.machine.Phase.TheVariants.{ReadHead, Connect, Unlinked, Prepare, Relay, Broken, Fail, Close, Answer, Ended}
+use Rattle.relay_proxy.specs.declared.machine.Phase.TheVariants.{ReadHead, Connect, Unlinked, Prepare, Relay, Broken, Again, Fail, Close, Answer, Ended}
 use Rattle.relay_proxy.specs.declared.machine.RunStep.{RunStep}
 use Rattle.relay_proxy.specs.declared.owed.Owed.{Owed}
 use Rattle.relay_proxy.specs.declared.record.AttemptRecord.{AttemptRecord}
@@ -58,6 +59,8 @@ module _ {L C : Type 0} (state : L → LinkState) (start_at : L → LinkStart) w
   relaying_turn s p w x [] (Relay a) next is run turn = turn run
   relaying_turn s p w x (r ∷ own) (Relay a) next is run turn = absurd run.holds
   relaying_turn s p w x own (Broken context session link lease keep error) next is run turn =
+      absurd (true≢false (sym is))
+  relaying_turn s p w x own (Again context session link lease keep error) next is run turn =
       absurd (true≢false (sym is))
   relaying_turn s p w x own (Fail link lease keep session error) next is run turn =
       absurd (true≢false (sym is))
@@ -106,14 +109,14 @@ module _ {L C : Type 0} (state : L → LinkState) (start_at : L → LinkStart) w
   prepare_turn s s' p w x [] context session link lease next run turn = turn run
   prepare_turn s s' p w x (r ∷ own) context session link lease next run turn = absurd run.holds
 
-  -- and one that has the error of an attempt treated
+  -- and one that has the error of an attempt treated, behind which another one may follow
   pub broken_turn : (s s' : Start) (p : Passed) (w x : World) (own : List (Returned L))
       (context : C) (session : Box HttpSession) (link : L) (lease : Lease) (keep : Bool) (e : Error)
       (next : Phase L C)
       → RunSoFar state start_at s p w own (Broken context session link lease keep e)
       → (RunSoFar state start_at s p w [] (Broken context session link lease keep e)
-      → Advances state start_at s' x next)
-      → AdvancesOn state start_at s' x own next
+      → Advances state start_at s' x next ⊎ RepeatsOn state start_at s' x next)
+      → AdvancesOn state start_at s' x own next ⊎ RepeatsOn state start_at s' x next
   broken_turn s s' p w x [] context session link lease keep e next run turn = turn run
   broken_turn s s' p w x (r ∷ own) context session link lease keep e next run turn =
       absurd run.holds
@@ -136,6 +139,7 @@ module _ {L C : Type 0} (state : L → LinkState) (start_at : L → LinkStart) w
   relaying_rests w x ReadHead next did is = absurd (true≢false (sym is))
   relaying_rests w x (Broken context session link lease keep error) next did is =
       absurd (true≢false (sym is))
+  relaying_rests w x (Again context session link lease keep error) next did is = absurd (true≢false (sym is))
   relaying_rests w x (Fail link lease keep session error) next did is = absurd (true≢false (sym is))
   relaying_rests w x (Answer session owed attempts) next did is = absurd (true≢false (sym is))
   relaying_rests w x (Connect context session tries) next did is = absurd (true≢false (sym is))
@@ -151,6 +155,7 @@ module _ {L C : Type 0} (state : L → LinkState) (start_at : L → LinkStart) w
   relaying_unrefused ReadHead next is = absurd (true≢false (sym is))
   relaying_unrefused (Broken context session link lease keep error) next is =
       absurd (true≢false (sym is))
+  relaying_unrefused (Again context session link lease keep error) next is = absurd (true≢false (sym is))
   relaying_unrefused (Fail link lease keep session error) next is = absurd (true≢false (sym is))
   relaying_unrefused (Answer session owed attempts) next is = absurd (true≢false (sym is))
   relaying_unrefused (Connect context session tries) next is = absurd (true≢false (sym is))
@@ -175,6 +180,7 @@ module _ {L C : Type 0} (state : L → LinkState) (start_at : L → LinkStart) w
   relaying_takes ReadHead next is = absurd (true≢false (sym is))
   relaying_takes (Broken context session link lease keep error) next is =
       absurd (true≢false (sym is))
+  relaying_takes (Again context session link lease keep error) next is = absurd (true≢false (sym is))
   relaying_takes (Fail link lease keep session error) next is = absurd (true≢false (sym is))
   relaying_takes (Answer session owed attempts) next is = absurd (true≢false (sym is))
   relaying_takes (Connect context session tries) next is = absurd (true≢false (sym is))
@@ -207,6 +213,8 @@ module _ {L C : Type 0} (state : L → LinkState) (start_at : L → LinkStart) w
   relaying_uses s p own w ReadHead T is run uses = absurd (true≢false (sym is))
   relaying_uses s p own w (Broken context session link lease keep error) T is run uses =
       absurd (true≢false (sym is))
+  relaying_uses s p own w (Again context session link lease keep error) T is run uses =
+      absurd (true≢false (sym is))
   relaying_uses s p own w (Fail link lease keep session error) T is run uses =
       absurd (true≢false (sym is))
   relaying_uses s p own w (Answer session owed attempts) T is run uses =
@@ -238,6 +246,9 @@ module _ {L C : Type 0} (state : L → LinkState) (start_at : L → LinkStart) w
   relaying_counts s p own w client' n used (Broken context session link lease keep error) next is run
       had counts =
       absurd (true≢false (sym is))
+  relaying_counts s p own w client' n used (Again context session link lease keep error) next is run had
+      counts =
+      absurd (true≢false (sym is))
   relaying_counts s p own w client' n used (Fail link lease keep session error) next is run had
       counts =
       absurd (true≢false (sym is))
@@ -265,6 +276,7 @@ module _ {L C : Type 0} (state : L → LinkState) (start_at : L → LinkStart) w
       → PhaseUses state start_at n own next
   unlinked_asked n own ReadHead none had = had
   unlinked_asked n own (Broken context session link lease keep error) none had = cc
+  unlinked_asked n own (Again context session link lease keep error) none had = cc
   unlinked_asked n own (Fail link lease keep session error) none had = cc
   unlinked_asked n own (Answer session owed attempts) none had = had
   unlinked_asked n own (Connect context session tries) none had = had
@@ -400,6 +412,7 @@ pub relaying_works : {L C : Type 0} (phase : Phase L C) (did : RunStep) (work : 
 relaying_works ReadHead did work is does = absurd (true≢false (sym is))
 relaying_works (Broken context session link lease keep error) did work is does =
     absurd (true≢false (sym is))
+relaying_works (Again context session link lease keep error) did work is does = absurd (true≢false (sym is))
 relaying_works (Fail link lease keep session error) did work is does = absurd (true≢false (sym is))
 relaying_works (Answer session owed attempts) did work is does = absurd (true≢false (sym is))
 relaying_works (Connect context session tries) did work is does = absurd (true≢false (sym is))
@@ -414,6 +427,7 @@ pub open_settles : {L C : Type 0} (phase : Phase L C) (told : Option (List (Retu
     → is_closing phase ≡ false → Settles phase told told phase
 open_settles ReadHead told is = (refl, refl)
 open_settles (Broken context session link lease keep error) told is = (refl, refl)
+open_settles (Again context session link lease keep error) told is = absurd (true≢false is)
 open_settles (Fail link lease keep session error) told is = absurd (true≢false is)
 open_settles (Answer session owed attempts) told is = (refl, refl)
 open_settles (Connect context session tries) told is = (refl, refl)
@@ -432,6 +446,7 @@ unlinked_open state start_at (Unlinked context session attempts error) none = re
 unlinked_open state start_at (Prepare context session link lease) none = refl
 unlinked_open state start_at (Relay a) none = refl
 unlinked_open state start_at (Broken context session link lease keep error) none = refl
+unlinked_open state start_at (Again context session link lease keep error) none = cc
 unlinked_open state start_at (Fail link lease keep session error) none = cc
 unlinked_open state start_at (Close link lease keep outcome) none = cc
 unlinked_open state start_at (Answer session owed attempts) none = refl
@@ -446,6 +461,7 @@ relaying_open (Unlinked context session attempts error) is = refl
 relaying_open (Prepare context session link lease) is = refl
 relaying_open (Relay a) is = refl
 relaying_open (Broken context session link lease keep error) is = refl
+relaying_open (Again context session link lease keep error) is = absurd (true≢false (sym is))
 relaying_open (Fail link lease keep session error) is = absurd (true≢false (sym is))
 relaying_open (Close link lease keep outcome) is = absurd (true≢false (sym is))
 relaying_open (Answer session owed attempts) is = refl
@@ -460,6 +476,7 @@ unlinked_items state start_at (Unlinked context session attempts error) none = r
 unlinked_items state start_at (Prepare context session link lease) none = cc
 unlinked_items state start_at (Relay a) none = cc
 unlinked_items state start_at (Broken context session link lease keep error) none = cc
+unlinked_items state start_at (Again context session link lease keep error) none = cc
 unlinked_items state start_at (Fail link lease keep session error) none = cc
 unlinked_items state start_at (Close link lease keep outcome) none = cc
 unlinked_items state start_at (Answer session owed attempts) none = refl

@@ -28,7 +28,7 @@ use Rattle.relay_proxy.specs.declared.work.Work.{Work}
 use Rattle.relay_proxy.specs.declared.uses.Uses.{Uses}
 use Rattle.relay_proxy.specs.declared.machine.Attempt.{Attempt}
 use Rattle.relay_proxy.specs.declared.machine.Phase.{Phase}
-use Rattle.relay_proxy.specs.declared.machine.Phase.TheVariants.{ReadHead, Connect, Unlinked, Prepare, Relay, Broken, Fail, Close, Answer, Ended}
+use Rattle.relay_proxy.specs.declared.machine.Phase.TheVariants.{ReadHead, Connect, Unlinked, Prepare, Relay, Broken, Again, Fail, Close, Answer, Ended}
 
 -- a count that went up by one rose
 up_rose : (before after : ℕ) → after ≡ up before → Rose before after
@@ -166,6 +166,14 @@ module _ {L C : Type 0} (state : L → LinkState) (start_at : L → LinkStart) w
       inl (ap (λ (n : Phase L C). held_state state n) does.0 ∙ held)
   settled_stands (Broken context session l lease keep e) settled before mid after link same does held =
       inl (ap (λ (n : Phase L C). held_state state n) does.0 ∙ held)
+  settled_stands (Again context session l lease keep e) settled before mid after link same does held =
+      let is : state l ≡ link = cc in
+      inr (
+        does.2.entry,
+        does.2.gained
+            ∙ ap (λ (t : Option (List (Returned L))). more t (does.2.entry ∷ [])) same,
+        ap state does.2.hands.is_link ∙ is,
+      )
   settled_stands (Fail l lease keep session e) settled before mid after link same does held =
       let is : state l ≡ link = cc in
       inr (
@@ -222,6 +230,8 @@ module _ {L C : Type 0} (state : L → LinkState) (start_at : L → LinkStart) w
   owes_settled (Relay a) settled before after does owes = absurd owes
   owes_settled (Broken context session link lease keep error) settled before after does owes =
       subst (λ (n : Phase L C). OwesAnswer n) (sym does.0) tt
+  owes_settled (Again context session link lease keep error) settled before after does owes =
+      absurd owes
   owes_settled (Fail link lease keep session error) settled before after does owes =
       subst (λ (n : Phase L C). OwesAnswer n) (sym does.1) tt
   owes_settled (Close link lease keep outcome) settled before after does owes = absurd owes

@@ -1,5 +1,5 @@
 -- How a request gives its link back, and what it leaves.
-use Rattle.std.specs.Prelude.{◌≡◌, ◌⊎◌, ℕ, Bool, true, false, List, [], ◌∷◌, ◌++◌, length, Option, Some}
+use Rattle.std.specs.Prelude.{◌≡◌, ◌⊎◌, ℕ, Bool, true, false, List, [], ◌∷◌, ◌++◌, length, Option, None, Some}
 use Rattle.relay_tasks.specs.Head.{RequestHead}
 use Rattle.relay_tasks.specs.declared.Error.{Error}
 use Rattle.relay_links.specs.Link.{LinkState, LinkStart}
@@ -47,6 +47,7 @@ pub record Hands {L : Type 0}
   pub reused : attempt.reused ≡ lease.reused
   pub record_kept : attempt.kept ≡ keep
   pub error : attempt.error ≡ error_of outcome
+  pub unfaulted : attempt.fault ≡ None
 
 -- the link went back to the connector, whose list gained it
 pub record HandsBack {L : Type 0}

@@ -1,5 +1,6 @@
 -- One request over one proxy: what a step and the end make of its run so far, and what the whole
 -- call promises.
+use Rattle.std.specs.Global.{Box}
 use Rattle.std.specs.Prelude.{◌≡◌, ◌≢◌, ℕ, ◌+◌, ◌≤◌, ◌⊎◌, Bool, true, false, ◌&&◌, not, List, [], ◌∷◌, ◌++◌, drop, length, map, Option, None}
 use Rattle.relay_links.specs.Connector.{Offer}
 use Rattle.relay_links.specs.Count.{up}
@@ -8,6 +9,7 @@ use Rattle.relay_links.specs.Told.{more, Gains}
 use Rattle.relay_tasks.specs.declared.Fault.{Fault}
 use Rattle.relay_tasks.specs.declared.took.Pause.TheVariants.{NotReady, Silent}
 use Rattle.relay_links.specs.declared.Returned.{Returned}
+use Rattle.relay_session.specs.declared.session.HttpSession.{HttpSession}
 use Rattle.relay_attempt.specs.Passed.{Passed}
 use Rattle.relay_proxy.specs.Passed.{World, Start}
 use Rattle.relay_proxy.specs.Bound.{IsBounded, IsWithin, LinkGave, OwnGave, PhaseCounts, most_sides, sides_before}
@@ -128,6 +130,9 @@ module _ {L C : Type 0} (state : L → LinkState) (start_at : L → LinkStart) w
     pub begins : BeginsAt t leg
     pub stands : leg.client ≡ w.client
     pub gained : after ≡ more before (leg.back ∷ [])
+    pub context : C
+    pub session : Box HttpSession
+    pub connects : next ≡ Connect context session (leg.tries ++ leg.attempt ∷ [])
     pub passed : Passed
     pub run : RunSoFar state start_at (rebased t leg) passed w [] next
     pub refused : AnswersFaults told_before told_after [] phase [] next

@@ -70,6 +70,20 @@ is_connecting (Close link lease keep outcome) = false
 is_connecting (Answer session owed attempts) = false
 is_connecting (Ended outcome attempts) = false
 
+-- a link was given, and it is not to be handed back yet
+abbrev pub is_linked : {L C : Type 0} → Phase L C → Bool
+is_linked ReadHead = false
+is_linked (Connect context session tries) = false
+is_linked (Unlinked context session attempts error) = false
+is_linked (Prepare context session link lease) = true
+is_linked (Relay a) = true
+is_linked (Broken context session link lease keep error) = true
+is_linked (Again context session link lease keep error) = false
+is_linked (Fail link lease keep session error) = false
+is_linked (Close link lease keep outcome) = false
+is_linked (Answer session owed attempts) = false
+is_linked (Ended outcome attempts) = false
+
 -- the link that a phase holds, as it stands
 abbrev pub held_state : {L C : Type 0} → (L → LinkState) → Phase L C → Option LinkState
 held_state state ReadHead = None
@@ -177,7 +191,7 @@ module _ {L C : Type 0} (state : L → LinkState) (start_at : L → LinkStart) w
   abbrev pub HasMoved : World → World → Phase L C → Phase L C → Type 0
   HasMoved w x ReadHead next = HasGiven w.client x.client ⊎ (is_reading_head next ≡ false)
   HasMoved w x (Connect context session tries) next =
-      (links_held next ≡ 1) ⊎ (TriesOn tries next ⊎ (CallsOn tries next ⊎ OwesAnswer next))
+      (is_linked next ≡ true) ⊎ (TriesOn tries next ⊎ (CallsOn tries next ⊎ OwesAnswer next))
   HasMoved w x (Unlinked context session attempts error) next = OwesAnswer next
   HasMoved w x (Prepare context session link lease) next =
       (is_relaying next ≡ true) ⊎ OwesAnswer next

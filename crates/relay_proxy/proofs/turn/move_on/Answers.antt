@@ -53,6 +53,12 @@ returns-in-Fail-clause-turn g c =
     rw (c.go_on-in-Fail.ensures.phase, sym c.replace.ensures.value ∙ c.in-Fail.is)
     (λ s p own most calls run. record { passed = p; run = run })
 
+-- the same where another attempt follows then
+pub returns-in-Again-clause-turn : goal.returns-in-Again-clause-turn
+returns-in-Again-clause-turn g c =
+    rw (c.go_on-in-Again.ensures.phase, sym c.replace.ensures.value ∙ c.in-Again.is)
+    (λ s p own most calls run. record { passed = p; run = run })
+
 -- a turn that asks the connector is a turn
 pub returns-in-Connect-clause-turn : goal.returns-in-Connect-clause-turn
 returns-in-Connect-clause-turn g c =
@@ -148,6 +154,12 @@ returns-in-Fail-clause-tells g c =
     rw (c.go_on-in-Fail.ensures.phase, sym c.replace.ensures.value ∙ c.in-Fail.is) (λ live.
     append-nil _)
 
+-- the same where another attempt follows then
+pub returns-in-Again-clause-tells : goal.returns-in-Again-clause-tells
+returns-in-Again-clause-tells g c =
+    rw (c.go_on-in-Again.ensures.phase, sym c.replace.ensures.value ∙ c.in-Again.is) (λ live.
+    append-nil _)
+
 -- nor does a write of the answer
 pub returns-in-Answer-clause-tells : goal.returns-in-Answer-clause-tells
 returns-in-Answer-clause-tells g c =
@@ -159,6 +171,12 @@ returns-in-Answer-clause-tells g c =
 pub returns-in-Fail-clause-carries : goal.returns-in-Fail-clause-carries
 returns-in-Fail-clause-carries g c =
     rw (c.go_on-in-Fail.ensures.phase, sym c.replace.ensures.value ∙ c.in-Fail.is) (λ live.
+    append-nil _)
+
+-- the same where another attempt follows then
+pub returns-in-Again-clause-carries : goal.returns-in-Again-clause-carries
+returns-in-Again-clause-carries g c =
+    rw (c.go_on-in-Again.ensures.phase, sym c.replace.ensures.value ∙ c.in-Again.is) (λ live.
     append-nil _)
 
 -- a turn that reads the head takes none of the offers
@@ -217,6 +235,20 @@ returns-in-Fail-clause-uses g c =
       inr (refl, record { client_same = refl; upstream_same = refl }),
     ))
 
+-- the same where another attempt follows then
+pub returns-in-Again-clause-uses : goal.returns-in-Again-clause-uses
+returns-in-Again-clause-uses g c =
+    rw (
+      c.go_on-in-Again.ensures.phase,
+      c.go_on-in-Again.ensures.work,
+      sym c.replace.ensures.value ∙ c.in-Again.is,
+    )
+    (λ s p own run. (
+      g.K.Byte.ByteLink.state c.in-Again.link,
+      refl,
+      inr (refl, record { client_same = refl; upstream_same = refl }),
+    ))
+
 -- a turn that reads the head counts the client's uses
 pub returns-in-ReadHead-clause-counts : goal.returns-in-ReadHead-clause-counts
 returns-in-ReadHead-clause-counts g c =
@@ -267,6 +299,17 @@ returns-in-Fail-clause-counts g c =
       c.go_on-in-Fail.ensures.phase,
       c.go_on-in-Fail.ensures.work,
       sym c.replace.ensures.value ∙ c.in-Fail.is,
+    )
+    (λ s p own n run had. still_counts g.K.Byte.ByteLink.state g.K.Byte.ByteLink.start n 0 _ own _
+    refl had)
+
+-- the same where another attempt follows then
+pub returns-in-Again-clause-counts : goal.returns-in-Again-clause-counts
+returns-in-Again-clause-counts g c =
+    rw (
+      c.go_on-in-Again.ensures.phase,
+      c.go_on-in-Again.ensures.work,
+      sym c.replace.ensures.value ∙ c.in-Again.is,
     )
     (λ s p own n run had. still_counts g.K.Byte.ByteLink.state g.K.Byte.ByteLink.start n 0 _ own _
     refl had)
@@ -339,6 +382,11 @@ returns-in-Answer-clause-bounds g c =
 pub returns-in-Fail-clause-bounds : goal.returns-in-Fail-clause-bounds
 returns-in-Fail-clause-bounds g c =
     rw (sym c.replace.ensures.value ∙ c.in-Fail.is) (λ s p own tasks ends most calls run had. absurd had)
+
+-- the same where another attempt follows then
+pub returns-in-Again-clause-bounds : goal.returns-in-Again-clause-bounds
+returns-in-Again-clause-bounds g c =
+    rw (sym c.replace.ensures.value ∙ c.in-Again.is) (λ s p own tasks ends most calls run had. absurd had)
 
 -- and so is one that is to be closed
 pub returns-in-Close-clause-bounds : goal.returns-in-Close-clause-bounds
@@ -553,7 +601,7 @@ returns-in-Broken-clause-turn g c =
     (g.K.Connector.fault_count c.args.connector.now)) own _ _ _ _ _ _ c.fail.result.phase run
     (λ first. c.fail.ensures.run s p
     (world_of g.D.ByteLink.state c.args.client.now
-    (g.K.Connector.fault_count c.args.connector.now)) calls first))
+    (g.K.Connector.fault_count c.args.connector.now)) most calls first))
 
 -- its cause
 pub returns-in-Broken-clause-cause : goal.returns-in-Broken-clause-cause

@@ -4,6 +4,7 @@ use Rattle.relay_tasks.specs.declared.log.LogEntry.{LogEntry}
 use Rattle.relay_links.specs.Count.{last_count}
 use Rattle.relay_phases.specs.Order.{Station}
 use Rattle.relay_proxy.specs.Calls.{IsLogged, allowed_by, log_of}
+use Rattle.relay_proxy.specs.Legs.{behind}
 use Rattle.relay_proxy.specs.Passed.{called_to, start_of}
 use Rattle.relay_proxy.specs.Request.{Processes}
 use Rattle.relay_proxy.specs.Turn.{world_of}
@@ -11,7 +12,8 @@ use Rattle.relay_proxy.specs.declared.proxy.HttpProxy.{HttpProxy}
 use Rattle.relay_proxy.specs.declared.proxy.Outside.{Outside}
 use Rattle.relay_proxy.proofs.EndSteps.{done_gives, gives_by}
 use Rattle.relay_proxy.proofs.LastCalls.{calls_logged}
-use Rattle.relay_proxy.proofs.UnderWay.{begun, goes_on, all_taken, stopped, one_more, no_end, stops_at}
+use Rattle.relay_proxy.proofs.LegLemmas.{behind_most}
+use Rattle.relay_proxy.proofs.UnderWay.{begun, goes_on, all_taken, steps_under, stopped, one_more, no_end, stops_at}
 use Rattle.relay_proxy.proofs.proxy.HttpProxy.process_new_http.Goals as goal
 
 -- before the first step the request has begun
@@ -46,20 +48,25 @@ pub returns-then-is_stop-clause-processes : goal.returns-then-is_stop-clause-pro
 returns-then-is_stop-clause-processes g c =
     let state = g.K.Byte.ByteLink.state in
     let start = g.K.Byte.ByteLink.start in
-    let under = c.loop-turn.invariant.0 in
+    let before = c.loop-turn.invariant.0 in
     let s = start_of c.args.self.now.conf.max_retries
     (world_of g.D.ByteLink.state c.args.client.now
     (g.K.Connector.fault_count c.args.self.now.connector)) in
-    let steps = c.step-step.ensures.steps s under.passed under.own
-    (ap (λ (k : HttpProxy g.row.SV.Denot g.row.K.Denot g.row.P.Denot). k.conf.max_retries)
-    (sym c.loop-turn.invariant.6)) c.loop-turn.invariant.9 under.run in
-    let now = called_to s (log_of c.step-step.new.machine.calls) in
-    let ends = c.close.ensures.ends now steps.passed _ steps.run in
+    let steps = c.step-step.ensures.steps (behind s before.legs) before.passed before.own
+    (behind_most s before.legs
+    ∙ ap (λ (k : HttpProxy g.row.SV.Denot g.row.K.Denot g.row.P.Denot). k.conf.max_retries)
+    (sym c.loop-turn.invariant.6)) c.loop-turn.invariant.9 before.run in
+    let under = steps_under state start s (log_of c.loop-turn.machine.calls)
+    (log_of c.step-step.new.machine.calls) _ _ _ _ _ _ _ _ _ _ _ _
+    c.loop-turn.machine.machine c.step-step.new.machine.machine _ _ before c.step-step.ensures.front
+    steps refl in
+    let ends = c.close.ensures.ends
+    (called_to (behind s under.legs) (log_of c.step-step.new.machine.calls)) under.passed under.own
+    under.run in
     let allows = allowed_by (g.SV.ProxyHttp.allows c.loop-turn.self.inner)
     g.SV.Modules.HttpModule.allows in
     let mark_of = g.SV.ProxyHttp.mark_of c.loop-turn.self.inner in
     let calls = c.step-step.ensures.calls c.loop-turn.invariant.9 in
-    let counts = steps.bounded under.tasks under.ends under.bounded in
     subst (λ (l : List LogEntry). Processes state start (called_to s l)
     (world_of g.D.ByteLink.state c.close.new.client
     (g.K.Connector.fault_count c.close.new.self.connector))
@@ -71,9 +78,8 @@ returns-then-is_stop-clause-processes g c =
     (g.K.Connector.stock c.close.new.self.connector)
     (g.D.ByteLink.state c.args.client.now.link) c.args.turns c.close.result)
     (sym c.close.ensures.log)
-    (stopped state start (called_to s (log_of c.loop-turn.machine.calls)) now _ _ _ _ _ _ _ _ _ _ _
-    _ _ _ _ _ c.loop-turn.machine.machine c.step-step.new.machine.machine
-    c.step-step.new.machine.calls.at _ _ c.close.result under steps ends
+    (stopped state start s (log_of c.step-step.new.machine.calls) _ _ _ _ _ _ _ _ _ _ _ _
+    c.step-step.new.machine.machine c.step-step.new.machine.calls.at _ _ c.close.result under ends
     (rw c.close.ensures.log (gives_by allows mark_of c.step-step.new.machine.calls
     c.step-step.new.machine.machine.phase ends.came c.close.result.outcome ends.comes ends.given
     calls)) c.close.ensures.refusals c.close.ensures.offers
@@ -87,11 +93,13 @@ returns-then-is_stop-clause-processes g c =
     (rw (c.close.ensures.link, c.close.ensures.ahead, c.close.ensures.faults) (refl
     {a = world_of g.D.ByteLink.state c.step-step.new.client
     (g.K.Connector.fault_count c.step-step.new.self.connector)}))
-    (λ done. done_gives state start _ _ now
+    (λ done. done_gives state start _ _
+    (called_to (behind s under.legs) (log_of c.step-step.new.machine.calls))
     (g.D.ByteLink.state c.step-step.new.client.link) c.step-step.new.client.ahead _
     c.step-step.new.machine.machine.phase c.step-step.new.machine.calls.at ends.came
-    c.close.result.outcome counts ends.comes ends.given done ends.over))
-    (rw c.close.ensures.link refl) c.close.ensures.ahead c.close.ensures.turns
+    c.close.result.outcome under.bounded ends.comes ends.given done ends.over))
+    c.close.ensures.turns
+    (rw c.close.ensures.link refl) c.close.ensures.ahead
     c.close.ensures.used c.close.ensures.moved c.close.ensures.sides
     (c.step-step.ensures.worked c.loop-turn.invariant.7)
     (rw c.close.ensures.log (c.step-step.ensures.logs c.loop-turn.invariant.10)))
@@ -105,15 +113,17 @@ loop-turn-preserved g c =
     let s = start_of c.args.self.now.conf.max_retries
     (world_of g.D.ByteLink.state c.args.client.now
     (g.K.Connector.fault_count c.args.self.now.connector)) in
-    let steps = c.step-step.ensures.steps s under.passed under.own
-    (ap (λ (k : HttpProxy g.row.SV.Denot g.row.K.Denot g.row.P.Denot). k.conf.max_retries)
+    let steps = c.step-step.ensures.steps (behind s under.legs) under.passed under.own
+    (behind_most s under.legs
+    ∙ ap (λ (k : HttpProxy g.row.SV.Denot g.row.K.Denot g.row.P.Denot). k.conf.max_retries)
     (sym c.loop-turn.invariant.6)) c.loop-turn.invariant.9 under.run in
     let goes = sym c.is_stop.ensures ∙ c.if-is_stop.false in
     let few : c.loop-turn._turn + 1 ≤ last_count =
     omega (arith, c.loop-turn-test.true, c.ranges.turns.fits) in (
-      goes_on state start (called_to s (log_of c.loop-turn.machine.calls))
-          (called_to s (log_of c.step-step.new.machine.calls)) _ _ _ _ _ _ _ _ _ _ _ _
-          c.loop-turn.machine.machine c.step-step.new.machine.machine _ under steps
+      goes_on state start s (log_of c.loop-turn.machine.calls)
+          (log_of c.step-step.new.machine.calls) _ _ _ _ _ _ _ _ _ _ _ _
+          c.loop-turn.machine.machine c.step-step.new.machine.machine _ under
+          c.step-step.ensures.front steps
           (one_more _ _ c.step-step.result c.step-step.ensures.counted goes) few,
       c.step-step.ensures.client_start ∙ c.loop-turn.invariant.1,
       c.step-step.ensures.stock ∙ c.loop-turn.invariant.2,
@@ -141,8 +151,9 @@ returns-clause-processes g c =
     let s = start_of c.args.self.now.conf.max_retries
     (world_of g.D.ByteLink.state c.args.client.now
     (g.K.Connector.fault_count c.args.self.now.connector)) in
-    let now = called_to s (log_of c.loop-turn.machine.calls) in
-    let ends = c.close-2.ensures.ends now under.passed under.own under.run in
+    let ends = c.close-2.ensures.ends
+    (called_to (behind s under.legs) (log_of c.loop-turn.machine.calls)) under.passed under.own
+    under.run in
     let all : c.args.turns ≡ c.loop-turn._turn =
     omega (arith, c.loop-turn-test.false, c.loop-turn.auto._turn-end) in
     subst (λ (l : List LogEntry). Processes state start (called_to s l)
@@ -156,7 +167,8 @@ returns-clause-processes g c =
     (g.K.Connector.stock c.close-2.new.self.connector)
     (g.D.ByteLink.state c.args.client.now.link) c.args.turns c.close-2.result)
     (sym c.close-2.ensures.log)
-    (all_taken state start now _ _ _ _ _ _ _ _ _ _ _ _ c.loop-turn.machine.machine
+    (all_taken state start s (log_of c.loop-turn.machine.calls) _ _ _ _ _ _ _ _ _ _ _ _
+    c.loop-turn.machine.machine
     c.loop-turn.machine.calls.at _ _ c.close-2.result under all ends
     (rw c.close-2.ensures.log (gives_by
     (allowed_by (g.SV.ProxyHttp.allows c.loop-turn.self.inner) g.SV.Modules.HttpModule.allows)

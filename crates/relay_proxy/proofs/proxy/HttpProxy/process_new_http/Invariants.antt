@@ -1,7 +1,7 @@
 -- What holds between two steps of the call.
 use Rattle.std.proofs.Common.{◌≡◌, ◌+◌, ◌≤◌, [], length, None, false}
 use Rattle.relay_proxy.specs.Calls.{CallsSoFar, allowed_by, log_of}
-use Rattle.relay_proxy.specs.Passed.{called_to, start_of}
+use Rattle.relay_proxy.specs.Passed.{start_of}
 use Rattle.relay_proxy.specs.Request.{is_done}
 use Rattle.relay_proxy.specs.Stock.{items_held, all_items}
 use Rattle.relay_proxy.specs.Turn.{world_of, links_held}
@@ -13,9 +13,9 @@ use Rattle.relay_proxy.proofs.proxy.HttpProxy.process_new_http.Given as goal
 abbrev pub invariant-loop-turn : goal.invariant-loop-turn
 invariant-loop-turn g l =
     IsUnderWay g.K.Byte.ByteLink.state g.K.Byte.ByteLink.start
-    (called_to (start_of l.fn.self.conf.max_retries
+    (start_of l.fn.self.conf.max_retries
     (world_of g.D.ByteLink.state l.fn.client (g.K.Connector.fault_count l.fn.self.connector)))
-    (log_of l.machine.calls))
+    (log_of l.machine.calls)
     (world_of g.D.ByteLink.state l.client (g.K.Connector.fault_count l.self.connector))
     (g.K.Connector.returned l.fn.self.connector) (g.K.Connector.returned l.self.connector)
     (g.K.Connector.refusals l.fn.self.connector) (g.K.Connector.refusals l.self.connector)
