@@ -1,5 +1,5 @@
 -- The error of an attempt is treated, or answered where it was treated.
-use Rattle.std.proofs.Common.{[], subst, sym}
+use Rattle.std.proofs.Common.{[], inl, subst, sym}
 use Rattle.relay_proxy.specs.Calls.{log_of}
 use Rattle.relay_proxy.specs.Passed.{Start}
 use Rattle.relay_proxy.specs.Phases.{RunSoFar}
@@ -10,8 +10,8 @@ use Rattle.relay_proxy.proofs.failing.fail.Goals as goal
 
 -- it is treated
 pub returns-in-None-clause-run : goal.returns-in-None-clause-run
-returns-in-None-clause-run g c = λ s p w b run.
-    subst
+returns-in-None-clause-run g c = λ s p w most b run.
+    inl (subst
     (λ (t : Start). Advances g.L.ByteLink.state g.L.ByteLink.start t w
     c.treat_broken.result.phase)
     (sym (still_open s (log_of c.treat_broken.new.calls) (c.treat_broken.ensures.unended b.unended)))
@@ -19,8 +19,8 @@ returns-in-None-clause-run g c = λ s p w b run.
     (subst
     (λ (t : Start). RunSoFar g.L.ByteLink.state g.L.ByteLink.start t p w []
     (phase.Broken c.args.context c.args.session c.args.link c.args.lease c.args.keep c.args.error))
-    (still_open s (log_of c.args.calls.now) b.unended) run))
+    (still_open s (log_of c.args.calls.now) b.unended) run)))
 
 -- or answered
 pub returns-in-Some-clause-run : goal.returns-in-Some-clause-run
-returns-in-Some-clause-run g c = λ s p w b run. c.answer_broken.ensures.run s p w b run
+returns-in-Some-clause-run g c = λ s p w most b run. inl (c.answer_broken.ensures.run s p w b run)
