@@ -6,7 +6,7 @@
 --   left_memory, left_broken   the phase behind the exchange
 --   treated_on, answered_on    the phase behind the treatment, and behind the answer
 --   unasked                    memory was wanted for the call behind which another attempt follows
---   repeats_on                 another attempt follows
+--   repeats_called             another attempt follows
 --   treated_lost               the phase where memory was wanted
 use Rattle.std.specs.Global.{Box}
 use Rattle.std.proofs.Common.{◌≡◌, ℕ, ◌+◌, ◌<◌, Bool, true, false, not, List, [], ◌∷◌, ◌++◌, length, Some, refl, sym, ap, subst, ◌∙◌, inl, inr, arith, append-nil, true≢false}
@@ -45,11 +45,11 @@ use Rattle.relay_peer.specs.Body.{IsFrontOf}
 use Rattle.relay_attempt.specs.Order.{order_of, queued_in}
 use Rattle.relay_attempt.specs.Passed.{Passed}
 use Rattle.relay_proxy.specs.Answer.{answer_to, owed_text, WaitsOf}
-use Rattle.relay_proxy.specs.Calls.{CallsNext, GoesOn, TakesNext, leads_at, log_of, seen_with}
+use Rattle.relay_proxy.specs.Calls.{CallsNext, GoesOn, IsUnended, TakesNext, leads_at, log_of, seen_with}
 use Rattle.relay_proxy.specs.Endings.{IsInOrder, IsGiven, FailsToWrite, IsPartRelayed, Misses}
 use Rattle.relay_proxy.specs.Leaving.{Answers}
 use Rattle.relay_proxy.specs.Legs.{FailsAgain, RepeatsOn}
-use Rattle.relay_proxy.specs.Passed.{World, Start, based, closed_to, opened_to, origin_of, IsUnsent, IsUntouched, TellsClient}
+use Rattle.relay_proxy.specs.Passed.{World, Start, based, called_to, closed_to, opened_to, origin_of, IsUnsent, IsUntouched, TellsClient}
 use Rattle.relay_proxy.specs.Phases.{IsBroken, IsCalm, IsGoing, IsLeased, LeavesAhead, LeavesSession, PhaseHolds, RunSoFar}
 use Rattle.relay_proxy.specs.Relayable.{IsAccepted}
 use Rattle.relay_proxy.specs.Sent.{IsAnswered, IsTreated}
@@ -70,7 +70,7 @@ use Rattle.relay_proxy.proofs.NamedLemmas.{TellsSame, tells_same}
 use Rattle.relay_proxy.proofs.OpenHead.{exchange_open}
 use Rattle.relay_proxy.proofs.OpenSteps.{begins_on, called_accepted, called_tells, closed_accepted, closed_tells, left_on, once_goes_on, once_open, once_request, stays_connecting, wrote_on}
 use Rattle.relay_proxy.proofs.PrepareSteps.{leased_on}
-use Rattle.relay_proxy.proofs.TreatLemmas.{refuses_on, sends_on}
+use Rattle.relay_proxy.proofs.TreatLemmas.{refuses_on, sends_on, still_open, unended_more}
 
 -- ---- what waits
 
@@ -682,7 +682,7 @@ module _ {L C M K : Type 0} (state : L → LinkState) (start_at : L → LinkStar
         }
 
     -- another attempt follows
-    pub repeats_on : RepeatsOn {C = C} state start_at (opened_to s (log_of d)) w
+    repeats_on : RepeatsOn {C = C} state start_at (opened_to s (log_of d)) w
         (Again context' left link lease keep treated)
     repeats_on =
         let next = begins_next run.holds.1 in
@@ -711,6 +711,15 @@ module _ {L C M K : Type 0} (state : L → LinkState) (start_at : L → LinkStar
           quiet = next.quiet;
           begins = next.begins;
         }
+
+    -- so it does by all calls that were made
+    pub repeats_called : IsUnended (log_of c) → RepeatsOn {C = C} state start_at
+        (called_to s (log_of d)) w (Again context' left link lease keep treated)
+    repeats_called none =
+        subst (λ (t : Start). RepeatsOn {C = C} state start_at t w
+        (Again context' left link lease keep treated))
+        (sym (still_open s (log_of d) (unended_more (log_of c) (log_of d) turn.e
+        hook.SuppressProxyWarnLog turn.calls.log turn.hook refl none))) repeats_on
 
 -- memory was wanted for one of both
 pub treated_lost : {L C : Type 0} (state : L → LinkState) (start_at : L → LinkStart)
