@@ -2,7 +2,7 @@
 --
 --   uncounted               tasks behind which no final head was queued count no byte of a body
 --   unqueued_parts          what a response has of which nothing was queued
---   begins_again            a session that stands as it did begins anew where the client's link stands
+--   begins_again            a session that stands as it did begins anew, where the client's link is
 --   based_begins            so does one of which nothing was queued or written
 --   begins_any              it begins for each head that may be sent
 --   begins_accepted         its head was accepted
@@ -11,7 +11,7 @@ use Rattle.std.proofs.Common.{◌≡◌, ℕ, ◌+◌, Bool, true, false, not, �
 use Rattle.std.proofs.lemmas.Bool.{eqb-true}
 use Rattle.std.proofs.lemmas.List.{nil_from_length}
 use Rattle.std.specs.Prelude.{◌==◌, ◌⊎◌, if◌then◌else◌, min}
-use Rattle.relay_tasks.specs.Head.{RequestHead, ResponseHead}
+use Rattle.relay_tasks.specs.Head.{RequestHead}
 use Rattle.relay_tasks.specs.declared.task.HttpTask.{HttpTask}
 use Rattle.relay_tasks.specs.declared.task.HttpTask.TheVariants as task
 use Rattle.relay_links.specs.Count.{last_count}
@@ -19,6 +19,7 @@ use Rattle.relay_links.specs.Link.{LinkState}
 use Rattle.relay_links.specs.Told.{told_length}
 use Rattle.relay_links.proofs.SinceLemmas.{Since-start}
 use Rattle.relay_h1.specs.BodyReader.{is_done}
+use Rattle.relay_h1.specs.BodyWire.{after_piece}
 use Rattle.relay_h1.specs.ClientHead.{is_informational}
 use Rattle.relay_h1.specs.Verdict.{HasRequest}
 use Rattle.relay_h1.specs.declared.framing.Framing.{Framing}
@@ -28,8 +29,7 @@ use Rattle.relay_session.specs.Reading.{IsWhole, RequestSoFar, is_body_done, is_
 use Rattle.relay_session.specs.Response.{Holds, HoldsOn, IsText, has_head, is_unqueued, is_written_out}
 use Rattle.relay_session.specs.Session.{is_as_begun}
 use Rattle.relay_session.specs.TaskSteps.{IsWire}
-use Rattle.relay_session.specs.TaskWire.{Sent, ends_with, framing_of, framed_head_sent, head_sent, informed, joined, only_end, only_piece, piece_sent, shown, task_sent, wire}
-use Rattle.relay_h1.specs.BodyWire.{after_piece}
+use Rattle.relay_session.specs.TaskWire.{Sent, ends_with, framing_of, framed_head_sent, informed, joined, only_end, only_piece, piece_sent, shown, task_sent, wire}
 use Rattle.relay_session.specs.declared.reading.Reading.{Reading}
 use Rattle.relay_session.specs.declared.reading.Reading.TheVariants as reading
 use Rattle.relay_session.specs.declared.session.HttpSession.{HttpSession}

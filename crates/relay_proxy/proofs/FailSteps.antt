@@ -275,21 +275,23 @@ session_on : (s : Start) (these those : List LogEntry) (e : LogEntry) → those 
     → LeavesSession (opened_to s these) p client ahead link start session raised
     → LeavesSession (opened_to s those) p client ahead link start left raised
 session_on s these those e more is p client ahead link start session left raised same left_so quiet
-    before begins l = record {
-  head = l.head;
-  sent = l.sent;
-  relayable = l.relayable;
-  sends = sends_on these those e more is l.sends;
-  why = l.why;
-  answers = ap (λ (w : Writing). w.request) same ∙ l.answers;
-  holds = subst (λ (w : Writing). Holds w (queued_in (order_of l.why)) p.written) (sym same) l.holds;
-  broken = λ fault broken. writes_on s these those client
-      (l.broken fault (sym (ap (λ (w : Writing). w.output) same) ∙ broken));
-  is_left = left_so l.head l.is_left;
-  quiet = quiet l.quiet;
-  again = λ begun.
-      begins (origin_of (based s client) l.head l.sent start.reused) (l.again (before begun));
-}
+    before begins l =
+    record {
+      head = l.head;
+      sent = l.sent;
+      relayable = l.relayable;
+      sends = sends_on these those e more is l.sends;
+      why = l.why;
+      answers = ap (λ (w : Writing). w.request) same ∙ l.answers;
+      holds = subst (λ (w : Writing). Holds w (queued_in (order_of l.why)) p.written) (sym same)
+          l.holds;
+      broken = λ fault broken. writes_on s these those client
+          (l.broken fault (sym (ap (λ (w : Writing). w.output) same) ∙ broken));
+      is_left = left_so l.head l.is_left;
+      quiet = quiet l.quiet;
+      again = λ begun.
+          begins (origin_of (based s client) l.head l.sent start.reused) (l.again (before begun));
+    }
 
 -- ---- it is treated
 
@@ -660,8 +662,8 @@ module _ {L C M K : Type 0} (state : L → LinkState) (start_at : L → LinkStar
         let again = l.again begun in
         record {
           head = l.head;
-          accepted = begins_accepted (opened_to s (log_of d)) p o w.client w.ahead session.value refl
-              l.relayable again;
+          accepted = begins_accepted (opened_to s (log_of d)) p o w.client w.ahead session.value
+              refl l.relayable again;
           is_left = asked_left l.head l.is_left;
           quiet = asked_quiet l.quiet;
           begins = λ sent reused.

@@ -432,13 +432,12 @@ module _ {L C : Type 0} (state : L → LinkState) (start_at : L → LinkStart) w
                 };
             is_left = same ∙ run.holds.is_left;
             quiet = run.holds.quiet;
-            again = λ begun. subst
-                (λ (came : List ℕ). BeginsBehind
-                (rebased_to (origin_of s run.holds.head run.holds.sent (start_at (link_of x)).reused)
-                client) came client ahead x.exchange.down.session) own.came
-                (begins_again
-                (origin_of s run.holds.head run.holds.sent (start_at (link_of x)).reused)
-                own.down client ahead x.exchange.down.session own.client begun);
+            again = λ begun.
+                let o =
+                origin_of s run.holds.head run.holds.sent (start_at (link_of x)).reused in
+                subst (λ (came : List ℕ). BeginsBehind (rebased_to o client) came client ahead
+                x.exchange.down.session) own.came
+                (begins_again o own.down client ahead x.exchange.down.session own.client begun);
           }
 
 -- ---- a turn of a phase that relays

@@ -30,9 +30,9 @@ use relay_session::HttpSession;
 use relay_tasks::Error;
 
 /// The turn of an attempt that failed with that error: the application treats it. Where it was
-/// treated another attempt follows, where one may: the error is marked so, the request has made less
-/// attempts than `most`, and its session stands as it did behind its head. Else the application
-/// answers the client. The link is to go back then.
+/// treated another attempt follows, where one may: the error is marked so, the request has made
+/// fewer attempts than `most`, and its session stands as it did behind its head. Else the
+/// application answers the client. The link is to go back then.
 pub(crate) fn fail<SV: ProxyHttp, L: ByteLink>(
     app: &SV,
     most: usize,
@@ -75,7 +75,9 @@ pub(crate) fn fail<SV: ProxyHttp, L: ByteLink>(
         None => treat_broken(app, calls, context, session, link, lease, keep, error),
         Some(treated) => {
             if may_try(most, lease.room.made(), &treated) && session.is_as_begun() {
-                return repeat(app, calls, context, session, link, lease, keep, error, treated);
+                return repeat(
+                    app, calls, context, session, link, lease, keep, error, treated,
+                );
             }
             answer_broken(
                 app, calls, context, session, link, lease, keep, error, treated,

@@ -15,7 +15,8 @@ returns-in-None-clause-run g c = λ s p w most b run.
     inl (subst
     (λ (t : Start). Advances g.L.ByteLink.state g.L.ByteLink.start t w
     c.treat_broken.result.phase)
-    (sym (still_open s (log_of c.treat_broken.new.calls) (c.treat_broken.ensures.unended b.unended)))
+    (sym (still_open s (log_of c.treat_broken.new.calls)
+    (c.treat_broken.ensures.unended b.unended)))
     (c.treat_broken.ensures.run s p w
     (subst
     (λ (t : Start). RunSoFar g.L.ByteLink.state g.L.ByteLink.start t p w []
