@@ -1,87 +1,89 @@
 -- The requests of a run: what each leaves of the script's peers, and what is reported of it.
-use Rattle.std.proofs.Common.{◌≡◌, ◌≢◌, ◌<◌, ◌==◌, if◌then◌else◌, inl, inr, ◌⊎◌, Option, None, Ok, Err, subst, ℕ, zero, suc, ◌+◌, List, [], ◌∷◌, ◌++◌, map, drop, take, length, Bool, true, false, Some, refl, sym, ap, ◌∙◌, append_assoc, append-nil, true≢false, arith}
+use Rattle.std.proofs.Common.{◌≡◌, ◌≢◌, inl, inr, ◌⊎◌, Option, None, Ok, Err, subst, ℕ, zero, suc, ◌+◌, List, [], ◌∷◌, ◌++◌, map, drop, take, length, Bool, true, false, Some, refl, sym, ap, ◌∙◌, append_assoc, append-nil, true≢false}
 use Rattle.std.specs.List.{slice_get, slice_range}
-use Rattle.std.proofs.Math.Seq.{drop-append_seam, drop-nil, take-length}
-use Rattle.std.specs.List.{All}
-use Rattle.std.proofs.lemmas.Bool.Decides.{nat_tests}
-use Rattle.std.proofs.lemmas.List.{drop-drop, length-drop, length-append}
-use Rattle.std.proofs.lemmas.List.Elements.{All-append, All-cons, All-head, All-nil, All-tail}
+use Rattle.std.proofs.Math.Seq.{drop-append_seam, take-length}
+use Rattle.std.proofs.lemmas.List.{length-drop, map-append}
 use Rattle.std.proofs.lemmas.Option.{same_Some}
 use Rattle.relay_tasks.specs.declared.error.Error.{Error}
-use Rattle.relay_tasks.specs.declared.ErrorSource.TheVariants.{Upstream}
 use Rattle.relay_tasks.specs.declared.error.RetryType.{RetryType}
 use Rattle.relay_tasks.specs.declared.fault.Fault.{Fault}
 use Rattle.relay_tasks.specs.declared.log.LogEntry.{LogEntry}
 use Rattle.relay_links.specs.Connector.{Offer}
-use Rattle.relay_links.specs.Link.{LinkItems, LinkStart}
+use Rattle.relay_links.specs.Link.{LinkItems, LinkStart, LinkState}
 use Rattle.relay_links.specs.ScriptLink.{script_state, script_start, AnswersBy}
 use Rattle.relay_links.specs.ScriptEntries.{entry_offer, offer_of, next_entries, links_returned, offers_left, faults_answered, gets_failed}
-use Rattle.relay_links.specs.Told.{more}
+use Rattle.relay_links.specs.Told.{Since, more}
 use Rattle.relay_links.specs.declared.connector.Returned.{Returned}
 use Rattle.relay_links.specs.declared.script_connector.PeerScript.{PeerScript}
 use Rattle.relay_links.specs.declared.script_link.ScriptLink.{ScriptLink}
 use Rattle.relay_proxy.specs.ClosingHooks.{Gives}
-use Rattle.relay_proxy.specs.Endings.{EndsAhead, EndsReturned, EndsUnlinked, EndsWith, AttemptsFailed, AttemptsUnfinished, AttemptsUnlinked, FailsToConnect, IsFailedAttempt, IsRelayedEarly, IsRelayedWhole, IsUnsentAttempt, MadeAhead}
-use Rattle.relay_proxy.specs.Refusals.{fault_told, faults_told}
-use Rattle.relay_proxy.specs.Tries.{AreTries, EndsTrying, LosesTry, Refusal, fault_error, fault_of, record_of, refusals_in, tries_of, unlinked_record}
-use Rattle.relay_proxy.proofs.TryLemmas.{tries_before}
+use Rattle.relay_proxy.specs.Endings.{EndsAhead, EndsUnlinked, EndsWith, FailsToConnect, IsFailedAttempt, IsRelayedEarly, IsRelayedWhole, IsUnsentAttempt}
+use Rattle.relay_proxy.specs.Legs.{AreLegs, Leg, behind, rebased}
 use Rattle.relay_attempt.specs.Passed.{Passed}
-use Rattle.relay_proxy.specs.Passed.{World, Start, called_to, start_of}
+use Rattle.relay_proxy.specs.Passed.{World, Start, TellsClient, called_to, start_of}
 use Rattle.relay_proxy.specs.Request.{Processes}
-use Rattle.relay_proxy.specs.Taken.{AreNext, offers_for}
 use Rattle.relay_proxy.specs.declared.outcome.Outcome.{Outcome}
 use Rattle.relay_proxy.specs.declared.outcome.Outcome.TheVariants as ended
 use Rattle.relay_proxy.specs.declared.outcome.Processed.{Processed}
 use Rattle.relay_proxy.specs.declared.record.AttemptRecord.{AttemptRecord}
 use Rattle.relay_scripted.specs.declared.proxy.ScriptProxy.{ScriptProxy}
+use Rattle.relay_command.proofs.AskedLemmas.{request_asked}
 use Rattle.relay_command.proofs.ListLemmas.{drop_at}
-use Rattle.relay_command.specs.Exchange.{attempt_report, attempt_reports, peers_behind, sent_before, taken_of, sent_of, FirstStartsWithin, names_of, first_name, peer_offer, offers_of, IsEntryOf, AreEntriesOf, AreLinksOf, IsLogOf, Place, application_of, world_at, first_place, reported, start_at, IsRequest, Follows, AreRun, place_of, IsAt, Begins, Runs, IsRun}
+use Rattle.relay_command.specs.Exchange.{attempt_report, attempt_reports, left_by, links_back, sent_by, sents_in, sents_of, taken_of, taken_since, StartWithin, names_of, first_name, peer_offer, offers_of, IsEntryOf, AreEntriesOf, IsLogOf, Place, application_of, world_at, first_place, reported, start_at, IsRequest, Follows, AreRun, place_of, IsAt, Begins, Runs, IsRun}
 use Rattle.relay_command.specs.Report.{RequestSpec, outcome_reuse}
 use Rattle.relay_json.specs.Script.{PeerSpec, ScriptSpec}
 use Rattle.relay_command.specs.declared.exchange.Run.{Run}
 use Rattle.relay_command.specs.declared.report.AttemptReport.{AttemptReport}
 
--- numbers that are the same are tested so, and others are not
-nat_same : (a b : ℕ) → a ≡ b → (a == b) ≡ true
-nat_same a b is = grind (arith, nat_tests, is)
-
-nat_other : (a b : ℕ) → a < b → (a == b) ≡ false
-nat_other a b less = grind (arith, nat_tests, less)
+-- ---- what is reported of attempts
 
 -- one attempt more is reported, at the next of the names
-pub reports_more : (names : List (List ℕ)) (sent : List ℕ) (front : List AttemptReport)
+pub reports_more : (names sents : List (List ℕ)) (front : List AttemptReport)
     (attempts : List AttemptRecord) (n : ℕ) (a : AttemptRecord) → slice_get attempts n ≡ Some a
-    → (front ++ attempt_report (first_name names) (sent_before sent (drop (n + 1) attempts)) a ∷ [])
-    ++ attempt_reports (drop 1 names) sent (drop (n + 1) attempts)
-    ≡ front ++ attempt_reports names sent (drop n attempts)
-reports_more names sent front attempts n a is =
+    → (front ++ attempt_report (first_name names) (sent_by a.fault sents) a ∷ [])
+    ++ attempt_reports (drop 1 names) (left_by a.fault sents) (drop (n + 1) attempts)
+    ≡ front ++ attempt_reports names sents (drop n attempts)
+reports_more names sents front attempts n a is =
     append_assoc front _ _
-    ∙ ap (λ (xs : List AttemptRecord). front ++ attempt_reports names sent xs)
+    ∙ ap (λ (xs : List AttemptRecord). front ++ attempt_reports names sents xs)
     (sym (drop_at attempts n a is))
 
--- the last attempt is the one behind which none is
-pub last_sent : (sent : List ℕ) (attempts : List AttemptRecord) (n : ℕ) (is_last : Bool)
-    → is_last ≡ (n + 1 == length attempts) → n < length attempts
-    → (if is_last then sent else []) ≡ sent_before sent (drop (n + 1) attempts)
-last_sent sent attempts n is_last decides within = by (drop (n + 1) attempts) refl
-  where
-    by : (rest : List AttemptRecord) → drop (n + 1) attempts ≡ rest
-        → (if is_last then sent else []) ≡ sent_before sent rest
-    by [] none =
-        let all : length attempts ≡ n + 1 = omega (
-          arith,
-          within,
-          length-drop (n + 1) attempts,
-          ap (λ (xs : List AttemptRecord). length xs) none,
-        ) in
-        rw (decides ∙ nat_same (n + 1) (length attempts) (sym all)) refl
-    by (b ∷ rest) some =
-        let more : n + 1 < length attempts = omega (
-          arith,
-          length-drop (n + 1) attempts,
-          ap (λ (xs : List AttemptRecord). length xs) some,
-        ) in
-        rw (decides ∙ nat_other (n + 1) (length attempts) more) refl
+-- what the links took that an attempt leaves
+pub sents_left : (told : Option Fault) (links : List (Returned ScriptLink))
+    → sents_of (left_by told links) ≡ left_by told (sents_of links)
+sents_left (Some fault) links = refl
+sents_left None [] = refl
+sents_left None (r ∷ links) = refl
+
+-- these start within what they took as well
+pub start_left : (told : Option Fault) (links : List (Returned ScriptLink)) → StartWithin links
+    → StartWithin (left_by told links)
+start_left (Some fault) links start = start
+start_left None [] start = tt
+start_left None (r ∷ links) start = start.1
+
+-- what is reported of one more is the same with a text more that no link took
+one_same : (names sents : List (List ℕ)) (told : Option Fault) (a : AttemptRecord)
+    (attempts : List AttemptRecord)
+    → ((those : List (List ℕ)) → attempt_reports (drop 1 names) those attempts
+    ≡ attempt_reports (drop 1 names) (those ++ [] ∷ []) attempts)
+    → ◌≡◌ {A = List AttemptReport} (attempt_report (first_name names) (sent_by told sents) a
+    ∷ attempt_reports (drop 1 names) (left_by told sents) attempts)
+    (attempt_report (first_name names) (sent_by told (sents ++ [] ∷ [])) a
+    ∷ attempt_reports (drop 1 names) (left_by told (sents ++ [] ∷ [])) attempts)
+one_same names sents (Some fault) a attempts others =
+    ap (λ (rs : List AttemptReport). attempt_report (first_name names) [] a ∷ rs) (others sents)
+one_same names [] None a attempts others = refl
+one_same names (sent ∷ sents) None a attempts others =
+    ap (λ (rs : List AttemptReport). attempt_report (first_name names) sent a ∷ rs) (others sents)
+
+-- so it is of all
+nothing_more : (names sents : List (List ℕ)) (attempts : List AttemptRecord)
+    → attempt_reports names sents attempts ≡ attempt_reports names (sents ++ [] ∷ []) attempts
+nothing_more names sents [] = refl
+nothing_more names sents (a ∷ attempts) =
+    one_same names sents a.fault a attempts
+    (λ those. nothing_more (drop 1 names) those attempts)
 
 -- ---- the peers of a script
 
@@ -118,194 +120,21 @@ entries_more (other ∷ peers) [] peer entry are is = absurd are
 entries_more (other ∷ peers) (first ∷ entries) peer entry are is =
     (are.0, entries_more peers entries peer entry are.1 is)
 
--- one offer was the next of these peers, so those behind it are left
-one_taken : (peers : List PeerSpec) (offer : Offer) (left : List Offer)
-    → AreNext (offer ∷ []) (offers_of peers) left → left ≡ offers_of (drop 1 peers)
-one_taken [] (Ok items) left next = absurd next
-one_taken [] (Err fault) left next = sym next
-one_taken (peer ∷ peers) (Ok items) left next = sym next.1
-one_taken (peer ∷ peers) (Err fault) left next = sym next.1
-
--- the record of an attempt that was given no link has the connector's fault
-abbrev pub HasFault : AttemptRecord → Type 0
-HasFault a = (fault : Fault) × (a.fault ≡ Some fault)
-
--- that is the first of the faults that attempts tell, and those of others follow
-one_told : (told : Option Fault) (fault : Fault) (faults : List Fault)
-    (rest offers left : List Offer) → told ≡ Some fault
-    → AreNext (map Err (fault_told told ++ faults) ++ rest) offers left
-    → AreNext (Err fault ∷ (map Err faults ++ rest)) offers left
-one_told told fault faults rest offers left is next =
-    subst (λ (o : Option Fault). AreNext (map Err (fault_told o ++ faults) ++ rest) offers left) is
-    next
-
--- behind the faults of such attempts the peers are left that they did not ask
-behind_faults : (peers : List PeerSpec) (tries : List AttemptRecord) (rest left : List Offer)
-    → All HasFault tries
-    → AreNext (map Err (faults_told tries) ++ rest) (offers_of peers) left
-    → AreNext rest (offers_of (drop (length tries) peers)) left
-behind_faults peers [] rest left failed next = next
-behind_faults [] (a ∷ tries) rest left failed next =
-    let one = All-head HasFault a tries failed in
-    subst (λ (ps : List PeerSpec). AreNext rest (offers_of ps) left)
-    (drop-nil (length tries) ∙ sym (drop-nil (length (a ∷ tries))))
-    (behind_faults [] tries rest left (All-tail HasFault a tries failed)
-    (one_told a.fault one.0 (faults_told tries) rest [] left one.1 next))
-behind_faults (peer ∷ peers) (a ∷ tries) rest left failed next =
-    let one = All-head HasFault a tries failed in
-    behind_faults peers tries rest left (All-tail HasFault a tries failed)
-    (one_told a.fault one.0 (faults_told tries) rest (offers_of (peer ∷ peers)) left one.1 next).1
-
--- those of which calls tell have one
-told_failed : (refusals : List Refusal) → All HasFault (map record_of refusals)
-told_failed [] = All-nil HasFault
-told_failed (r ∷ refusals) =
-    All-cons HasFault (record_of r) (map record_of refusals) (fault_of r.raised, refl)
-    (told_failed refusals)
-
--- and so have attempts that are those
-are_failed : (called : List LogEntry) (attempts : List AttemptRecord)
-    → attempts ≡ map record_of (refusals_in called) → All HasFault attempts
-are_failed called attempts told =
-    subst (λ (xs : List AttemptRecord). All HasFault xs) (sym told)
-    (told_failed (refusals_in called))
-
--- attempts behind which another followed
-tries_failed : (s : Start) (tries : List AttemptRecord) → AreTries s tries → All HasFault tries
-tries_failed s tries are = are_failed s.called tries are.told
-
--- all that ended without a link
-ends_failed : (s : Start) (attempts : List AttemptRecord) (e : Error) → EndsTrying s attempts e
-    → All HasFault attempts
-ends_failed s attempts e ends = are_failed s.called attempts ends.told
-
--- those of which the last was not told
-loses_failed : (s : Start) (attempts : List AttemptRecord) → LosesTry s attempts
-    → All HasFault attempts
-loses_failed s attempts loses =
-    let last = unlinked_record loses.peer loses.fault (fault_error Upstream loses.fault) in
-    subst (λ (xs : List AttemptRecord). All HasFault xs) (sym loses.attempts_are)
-    (All-append HasFault loses.tries (last ∷ []) (tries_failed s loses.tries loses.are_tries)
-    (All-cons HasFault last [] (loses.fault, refl) (All-nil HasFault)))
-
--- where there are none
-none_failed : (attempts : List AttemptRecord) → attempts ≡ [] → All HasFault attempts
-none_failed attempts none =
-    subst (λ (xs : List AttemptRecord). All HasFault xs) (sym none) (All-nil HasFault)
-
--- and where hooks ended the request
-ahead_failed : (s : Start) (why : Option Error) (attempts : List AttemptRecord)
-    → MadeAhead s why attempts → All HasFault attempts
-ahead_failed s None attempts made = none_failed attempts made
-ahead_failed s (Some e) attempts made = tries_failed s attempts made
-
--- a request without a link has attempts with faults alone
-unfinished_failed : (s : Start) (p : Passed) (w : World) (attempts : List AttemptRecord)
-    → AttemptsUnfinished s p w attempts → All HasFault attempts
-unfinished_failed s p w attempts (inl none) = none_failed attempts none.0
-unfinished_failed s p w attempts (inr (inl between)) = tries_failed s attempts between.0
-unfinished_failed s p w attempts (inr (inr (inl ahead))) =
-    ahead_failed s ahead.why attempts ahead.made
-unfinished_failed s p w attempts (inr (inr (inr half))) = ends_failed s attempts half.e half.made
-
-unlinked_failed : (s : Start) (p : Passed) (w : World) (attempts : List AttemptRecord)
-    (outcome : Outcome) → AttemptsUnlinked s p w attempts outcome → All HasFault attempts
-unlinked_failed s p w attempts ended.NoRequest none = none_failed attempts none
-unlinked_failed s p w attempts (ended.Refused error) none = none_failed attempts none
-unlinked_failed s p w attempts (ended.Served None reuse) none = none_failed attempts none
-unlinked_failed s p w attempts (ended.Served (Some e) reuse) (AttemptsFailed.unlinked made) =
-    ends_failed s attempts e made
-unlinked_failed s p w attempts (ended.Served (Some e) reuse) (AttemptsFailed.ahead ends made) =
-    ahead_failed s ends.why attempts made
-unlinked_failed s p w attempts ended.TurnLimit made = unfinished_failed s p w attempts made
-unlinked_failed s p w attempts ended.OutOfMemory (inl made) =
-    unfinished_failed s p w attempts made
-unlinked_failed s p w attempts ended.OutOfMemory (inr lost) = loses_failed s attempts lost.0
-
--- the attempts before one that had a link are all but the last
-linked_next : (s : Start) (p : Passed) (w : World) (r : Returned ScriptLink)
-    (peers : List PeerSpec) (attempts : List AttemptRecord) (outcome : Outcome) (left : List Offer)
-    → EndsReturned script_state script_start s p w r attempts outcome
-    → AreNext (offers_for script_start (r ∷ []) attempts) (offers_of peers) left
-    → AreNext (Ok (script_start r.link).items ∷ []) (offers_of (peers_behind peers attempts)) left
-linked_next s p w r peers attempts outcome left ends next =
-    behind_faults peers (tries_of attempts) (Ok (script_start r.link).items ∷ []) left
-    (subst (λ (xs : List AttemptRecord). All HasFault xs)
-    (sym (tries_before ends.tries attempts ends.attempt ends.attempts_are))
-    (tries_failed s ends.tries ends.are_tries)) next
-
--- one peer is behind those of the attempts before
-behind_last : (peers : List PeerSpec) (tries attempts : List AttemptRecord) (a : AttemptRecord)
-    → attempts ≡ tries ++ a ∷ []
-    → drop 1 (peers_behind peers attempts) ≡ drop (length attempts) peers
-behind_last peers tries attempts a are =
-    let before : length (tries_of attempts) ≡ length tries =
-    ap (λ (xs : List AttemptRecord). length xs) (tries_before tries attempts a are) in
-    let all : length attempts ≡ length (tries_of attempts) + 1 =
-    omega (
-      arith,
-      before,
-      ap (λ (xs : List AttemptRecord). length xs) are,
-      length-append tries (a ∷ []),
-    ) in
-    drop-drop 1 (length (tries_of attempts)) peers ∙ ap (λ (n : ℕ). drop n peers) (sym all)
-
--- a request takes the next peers for its attempts, and leaves the others
-pub left_after : (s : Start) (p : Passed) (w : World) (own : List (Returned ScriptLink))
-    (peers : List PeerSpec) (attempts : List AttemptRecord) (outcome : Outcome) (left : List Offer)
-    → EndsWith script_state script_start s p w own attempts outcome
-    → AreNext (offers_for script_start own attempts) (offers_of peers) left
-    → left ≡ offers_of (drop (length attempts) peers)
-left_after s p w [] peers attempts outcome left ends next =
-    sym (behind_faults peers attempts [] left (unlinked_failed s p w attempts outcome ends.1) next)
-left_after s p w (r ∷ []) peers attempts outcome left ends next =
-    one_taken (peers_behind peers attempts) (Ok (script_start r.link).items) left
-    (linked_next s p w r peers attempts outcome left ends next)
-    ∙ ap (λ (ps : List PeerSpec). offers_of ps)
-    (behind_last peers ends.tries attempts ends.attempt ends.attempts_are)
-left_after s p w (r ∷ q ∷ rest) peers attempts outcome left ends next = absurd ends
-
--- a link that a peer offers answers by the peer's items
-answers_at : (connect : Option RetryType) (peer : PeerSpec) (link : ScriptLink)
-    → peer_offer connect peer ≡ Ok (script_start link).items
-    → AnswersBy link peer.read peer.write
-answers_at None peer link is = cc
-answers_at (Some retry) peer link is = cc
-
--- the link that was given is that of the next peer
-link_is : (peers : List PeerSpec) (r : Returned ScriptLink) (left : List Offer)
-    → AreNext (Ok (script_start r.link).items ∷ []) (offers_of peers) left
-    → AreLinksOf peers (r ∷ [])
-link_is [] r left next = absurd next
-link_is (peer ∷ peers) r left next = (answers_at peer.connect peer r.link next.0, tt)
-
--- the link that a request handed back is that of the peer which its last attempt asked
-pub links_are : (s : Start) (p : Passed) (w : World) (own : List (Returned ScriptLink))
-    (peers : List PeerSpec) (attempts : List AttemptRecord) (outcome : Outcome) (left : List Offer)
-    → EndsWith script_state script_start s p w own attempts outcome
-    → AreNext (offers_for script_start own attempts) (offers_of peers) left
-    → AreLinksOf (peers_behind peers attempts) own
-links_are s p w [] peers attempts outcome left ends next = tt
-links_are s p w (r ∷ []) peers attempts outcome left ends next =
-    link_is (peers_behind peers attempts) r left
-    (linked_next s p w r peers attempts outcome left ends next)
-links_are s p w (r ∷ q ∷ rest) peers attempts outcome left ends next = absurd ends
-
 -- the names of peers that are left are those that are left of the names
 names_left : (n : ℕ) (peers : List PeerSpec) → drop n (names_of peers) ≡ names_of (drop n peers)
 names_left zero peers = refl
 names_left (suc n) [] = refl
 names_left (suc n) (peer ∷ peers) = names_left n peers
 
--- ---- what is reported
+-- ---- what passed over the links
 
--- a request that was given no link sent nothing, nor did one that hooks ended before
+-- an attempt that was given no link sent nothing, nor did a request that hooks ended before one
 ahead_sent : (s : Start) (p : Passed) (w : World) (e : Error)
     → FailsToConnect s p w e ⊎ EndsAhead s p w (Some e) → [] ≡ p.sent
 ahead_sent s p w e (inl fails) = sym fails.owed.unconnected.unsent.sent
 ahead_sent s p w e (inr ends) = sym ends.unsent.sent
 
--- so a request that had no link sent nothing
+-- so the last part of a request sent nothing where it had no link
 unlinked_sent : (s : Start) (p : Passed) (w : World) (outcome : Outcome)
     → EndsUnlinked s p w outcome → [] ≡ p.sent
 unlinked_sent s p w ended.NoRequest ends = sym ends.unsent.sent
@@ -317,21 +146,57 @@ unlinked_sent s p w (ended.Served (Some e) reuse) ends = ahead_sent s p w e ends
 unlinked_sent s p w ended.TurnLimit ends = sym ends.sent
 unlinked_sent s p w ended.OutOfMemory ends = sym ends.sent
 
--- the bytes that the links of a request took are those that were sent
-sent_is : (s : Start) (p : Passed) (w : World) (own : List (Returned ScriptLink))
-    (records : List AttemptRecord) (outcome : Outcome)
-    → EndsWith script_state script_start s p w own records outcome → sent_of own ≡ p.sent
-sent_is s p w [] records outcome ends = unlinked_sent s p w outcome ends.0
-sent_is s p w (r ∷ []) records outcome ends = ends.tells.sent.1
-sent_is s p w (r ∷ q ∷ rest) records outcome ends = absurd ends
+-- the bytes that the links of attempts took that were tried again are those that were sent
+legs_sent : (s : Start) (legs : List (Leg ScriptLink)) → AreLegs script_state script_start s legs
+    → sents_of (map (λ (leg : Leg ScriptLink). leg.back) legs)
+    ≡ map (λ (leg : Leg ScriptLink). leg.passed.sent) legs
+legs_sent s [] are = refl
+legs_sent s (leg ∷ legs) are =
+    let backs : List (Returned ScriptLink) = map (λ (k : Leg ScriptLink). k.back) legs in
+    ap (λ (sent : List ℕ). sent ∷ sents_of backs) are.0.tells.sent.1
+    ∙ ap (λ (sents : List (List ℕ)). leg.passed.sent ∷ sents)
+    (legs_sent (rebased s leg) legs are.2)
 
--- the first link of a request starts within what it took
-pub starts_within : (s : Start) (p : Passed) (w : World) (own : List (Returned ScriptLink))
-    (records : List AttemptRecord) (outcome : Outcome)
-    → EndsWith script_state script_start s p w own records outcome → FirstStartsWithin own
-starts_within s p w [] records outcome ends = tt
-starts_within s p w (r ∷ []) records outcome ends = ends.tells.sent.0
-starts_within s p w (r ∷ q ∷ rest) records outcome ends = absurd ends
+-- so it is of all links of a request, and where the last part had none, nothing was sent in it
+sents_are : (s : Start) (legs : List (Leg ScriptLink)) (p : Passed) (w : World)
+    (own : List (Returned ScriptLink)) (names : List (List ℕ)) (attempts : List AttemptRecord)
+    (outcome : Outcome) → AreLegs script_state script_start s legs
+    → EndsWith script_state script_start (behind s legs) p w own attempts outcome
+    → attempt_reports names (sents_of (links_back legs own)) attempts
+    ≡ attempt_reports names (sents_in legs p.sent) attempts
+sents_are s legs p w [] names attempts outcome are ends =
+    let backs : List (Returned ScriptLink) = map (λ (leg : Leg ScriptLink). leg.back) legs in
+    let sents : List (List ℕ) = map (λ (leg : Leg ScriptLink). leg.passed.sent) legs in
+    ap (λ (xs : List (List ℕ)). attempt_reports names xs attempts)
+    (ap (λ (rs : List (Returned ScriptLink)). sents_of rs) (append-nil backs)
+    ∙ legs_sent s legs are)
+    ∙ nothing_more names sents attempts
+    ∙ ap (λ (sent : List ℕ). attempt_reports names (sents ++ sent ∷ []) attempts)
+    (unlinked_sent (behind s legs) p w outcome ends.0)
+sents_are s legs p w (r ∷ []) names attempts outcome are ends =
+    let backs : List (Returned ScriptLink) = map (λ (leg : Leg ScriptLink). leg.back) legs in
+    let sents : List (List ℕ) = map (λ (leg : Leg ScriptLink). leg.passed.sent) legs in
+    ap (λ (xs : List (List ℕ)). attempt_reports names xs attempts)
+    (map-append (λ (k : Returned ScriptLink). taken_since k.link) backs (r ∷ [])
+    ∙ ap (λ (xs : List (List ℕ)). xs ++ taken_since r.link ∷ []) (legs_sent s legs are)
+    ∙ ap (λ (sent : List ℕ). sents ++ sent ∷ []) ends.tells.sent.1)
+sents_are s legs p w (r ∷ q ∷ rest) names attempts outcome are ends = absurd ends
+
+-- the link of the last part starts within what it took
+end_starts : (s : Start) (p : Passed) (w : World) (own : List (Returned ScriptLink))
+    (attempts : List AttemptRecord) (outcome : Outcome)
+    → EndsWith script_state script_start s p w own attempts outcome → StartWithin own
+end_starts s p w [] attempts outcome ends = tt
+end_starts s p w (r ∷ []) attempts outcome ends = (ends.tells.sent.0, tt)
+end_starts s p w (r ∷ q ∷ rest) attempts outcome ends = absurd ends
+
+-- and so do those of attempts that were tried again
+all_start : (s : Start) (legs : List (Leg ScriptLink)) (own : List (Returned ScriptLink))
+    → AreLegs script_state script_start s legs → StartWithin own
+    → StartWithin (links_back legs own)
+all_start s [] own are start = start
+all_start s (leg ∷ legs) own are start =
+    (are.0.tells.sent.0, all_start (rebased s leg) legs own are.2 start)
 
 -- what stands from a place to the end
 pub range_end : {A : Type 0} (xs : List A) (from : ℕ)
@@ -339,7 +204,7 @@ pub range_end : {A : Type 0} (xs : List A) (from : ℕ)
 range_end xs from =
     ap (λ n. take n (drop from xs)) (sym (length-drop from xs)) ∙ take-length (drop from xs)
 
--- the links that came back in a request are its own, and those behind the ones from before
+-- the links that came back in a request are its own, behind the ones from before
 pub own_is : (before after own : List (Returned ScriptLink)) → Some after ≡ more (Some before) own
     → after ≡ before ++ own
 own_is before after own gained = same_Some after (before ++ own) gained
@@ -349,6 +214,20 @@ pub own_behind : (before after own : List (Returned ScriptLink))
 own_behind before after own gained =
     ap (λ rs. drop (length before) rs) (own_is before after own gained)
     ∙ drop-append_seam before own
+
+-- they start within what they took
+pub back_start : (s : Start) (w : World) (before after : List (Returned ScriptLink))
+    (told_before told_after : Option (List Fault)) (had has : Option (List Offer))
+    (client : LinkState) (turns : ℕ) (processed : Processed)
+    → Processes script_state script_start s w (Some before) (Some after) told_before told_after
+    had has client turns processed
+    → StartWithin (drop (length before) after)
+back_start s w before after told_before told_after had has client turns processed run =
+    subst (λ (rs : List (Returned ScriptLink)). StartWithin rs)
+    (sym (own_behind before after (links_back run.legs run.own) run.gained))
+    (all_start s run.legs run.own run.are_legs
+    (end_starts (behind s run.legs) run.passed w run.own processed.history.attempts run.came
+    run.ended.ends))
 
 -- nothing is ahead of a client that goes back
 pub clear_again : (s : Start) (p : Passed) (w : World) (own : List (Returned ScriptLink))
@@ -392,9 +271,19 @@ back_given log came now (Gives.cut error reuse was (inl limit)) back =
 back_given log came now (Gives.cut error reuse was (inr lost)) back =
     absurd (true≢false (sym back ∙ ap (λ (o : Outcome). outcome_reuse o) lost))
 
+-- what is reported as written is what was, where no attempt was tried again
+written_is : (s : Start) (legs : List (Leg ScriptLink)) (p : Passed) (w : World)
+    (client : ScriptLink) (written : List ℕ) → legs ≡ []
+    → w.client ≡ script_state client → TellsClient (behind s legs) p w
+    → written ≡ drop s.taken (taken_of client) → written ≡ p.written
+written_is s legs p w client written none is tells wrote =
+    wrote
+    ∙ (subst (λ (c : LinkState). Since [] s.taken c.taken p.written) is
+    (subst (λ (ls : List (Leg ScriptLink)). TellsClient (behind s ls) p w) none tells).written).1
+
 -- what is reported of a request that the proxy made over the links of a script
 pub is_request : (script : ScriptSpec) (from to : Place) (written : List ℕ)
-    (own : List (Returned ScriptLink)) (processed : Processed)
+    (links : List (Returned ScriptLink)) (processed : Processed)
     (run : Processes script_state script_start (start_at script from processed.history.log)
     (world_at to) (Some from.returned) (Some to.returned) from.refusals to.refusals
     (Some (offers_of from.peers)) (Some (offers_of to.peers))
@@ -402,34 +291,39 @@ pub is_request : (script : ScriptSpec) (from to : Place) (written : List ℕ)
     → to.peers ≡ drop (length processed.history.attempts) from.peers
     → IsLogOf (application_of script.rules) processed.history.log
     → AnswersBy to.client script.client script.client_write → from.ahead ≡ []
-    → processed.outcome ≢ ended.OutOfMemory → written ≡ run.passed.written → own ≡ run.own
+    → processed.outcome ≢ ended.OutOfMemory
+    → written ≡ drop (length (taken_of from.client)) (taken_of to.client)
+    → links ≡ links_back run.legs run.own
     → IsRequest script from to
-    (reported (names_of from.peers) processed written own)
-is_request script from to written own processed run asked logged client clear printable is_written
-    is_own =
+    (reported (names_of from.peers) processed written links)
+is_request script from to written links processed run asked logged client clear printable
+    is_written are_back =
+    let s = start_at script from processed.history.log in
     record {
       processed = processed;
       run = run;
       asked = asked;
-      are_links = links_are _ run.passed (world_at to) run.own from.peers
-          processed.history.attempts run.came (offers_of to.peers) run.ended.ends
-          run.offered;
+      are_links = (request_asked s run.legs run.passed (world_at to) run.own
+          processed.history.attempts run.came from.peers (offers_of to.peers) refl run.are_legs
+          run.ended.ends run.offered).are_links;
       logged = logged;
       is_client = client;
       clear = clear;
       printable = printable;
       outcome = refl;
       written = is_written;
-      attempts = ap (λ sent. attempt_reports (names_of from.peers) sent processed.history.attempts)
-          (ap sent_of is_own
-          ∙ sent_is _ run.passed (world_at to) run.own processed.history.attempts run.came
-          run.ended.ends);
+      passed = λ none. written_is s run.legs run.passed (world_at to) to.client written none refl
+          run.ended.tells is_written;
+      attempts = ap (λ (rs : List (Returned ScriptLink)).
+          attempt_reports (names_of from.peers) (sents_of rs) processed.history.attempts) are_back
+          ∙ sents_are s run.legs run.passed (world_at to) run.own (names_of from.peers)
+          processed.history.attempts run.came run.are_legs run.ended.ends;
       log = refl;
     }
 
 -- what a run made of the next request, by the values that the code has
 pub run_next : (script : ScriptSpec) (peers : List PeerSpec) (old new : Run) (processed : Processed)
-    (turns : ℕ) (written : List ℕ) (own : List (Returned ScriptLink)) (request : RequestSpec)
+    (turns : ℕ) (written : List ℕ) (links : List (Returned ScriptLink)) (request : RequestSpec)
     → script.turns ≡ turns → IsAt script old peers
     → Processes script_state script_start
     (called_to (start_of old.proxy.conf.max_retries (world_at (place_of old peers)))
@@ -445,21 +339,22 @@ pub run_next : (script : ScriptSpec) (peers : List PeerSpec) (old new : Run) (pr
     → new.proxy.inner ≡ old.proxy.inner → IsLogOf old.proxy.inner processed.history.log
     → processed.outcome ≢ ended.OutOfMemory
     → written ≡ drop (length (taken_of old.client.link)) (taken_of new.client.link)
-    → own ≡ drop (length (links_returned old.proxy.connector)) (links_returned new.proxy.connector)
-    → request ≡ reported old.names.items processed written own
+    → links
+    ≡ drop (length (links_returned old.proxy.connector)) (links_returned new.proxy.connector)
+    → request ≡ reported old.names.items processed written links
     → Runs script peers old new request
-run_next script peers old new processed turns written own request many at ran started left set_up
-    same logged printable wrote back found =
+run_next script peers old new processed turns written links request many at ran started left
+    set_up same logged printable wrote back found =
     record {
       left = rest;
       is_request = subst (λ (r : RequestSpec).
           IsRequest script (place_of old peers) (place_of new rest) r) (sym found)
           (subst (λ (ns : List (List ℕ)). IsRequest script (place_of old peers) (place_of new rest)
-          (reported ns processed written own)) (sym at.names)
-          (is_request script (place_of old peers) (place_of new rest) written own processed run refl
-          by_rules client at.clear printable (wrote ∙ run.ended.tells.written.1)
+          (reported ns processed written links)) (sym at.names)
+          (is_request script (place_of old peers) (place_of new rest) written links processed run
+          refl by_rules client at.clear printable wrote
           (back ∙ own_behind (links_returned old.proxy.connector)
-          (links_returned new.proxy.connector) run.own run.gained)));
+          (links_returned new.proxy.connector) (links_back run.legs run.own) run.gained)));
       stands = λ again. record {
         offers = offers;
         names = left ∙ ap (λ (ns : List (List ℕ)). drop (length processed.history.attempts) ns)
@@ -505,11 +400,12 @@ run_next script peers old new processed turns written own request many at ran st
         (Some (offers_left old.proxy.connector)) (Some (offers_left new.proxy.connector))
         (script_state old.client.link) turns processed) at.retries ran))
 
-    -- what is left are the peers behind the one that was asked
+    -- what is left are the peers behind those that were asked
     offers : offers_left new.proxy.connector ≡ offers_of rest
-    offers = left_after _ offered.passed (world_at (place_of new rest)) offered.own peers
-        processed.history.attempts offered.came (offers_left new.proxy.connector)
-        offered.ended.ends offered.offered
+    offers = (request_asked (start_at script (place_of old peers) processed.history.log)
+        offered.legs offered.passed (world_at (place_of new rest)) offered.own
+        processed.history.attempts offered.came peers (offers_left new.proxy.connector) refl
+        offered.are_legs offered.ended.ends offered.offered).are_left
 
     run : Processes script_state script_start
         (start_at script (place_of old peers) processed.history.log) (world_at (place_of new rest))

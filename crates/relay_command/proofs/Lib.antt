@@ -1,3 +1,4 @@
+pub mod AskedLemmas
 pub mod ExchangeLemmas
 pub mod ListLemmas
 pub mod LogLemmas

@@ -1,11 +1,11 @@
 -- What a run of a script rules out.
-use Rattle.std.proofs.Common.{◌≡◌, ◌≢◌, ℕ, zero, suc, ◌+◌, ◌*◌, ◌≤◌, ◌<◌, Bool, true, false, List, [], ◌∷◌, ◌++◌, drop, map, Some, Ok, Err, refl, sym, ap, ◌∙◌, subst, inl, inr, length, length-append, arith}
-use Rattle.std.proofs.lemmas.List.{length-drop, length-take}
+use Rattle.std.proofs.Common.{◌≡◌, ◌≢◌, ℕ, zero, suc, ◌+◌, ◌*◌, ◌≤◌, ◌<◌, Bool, true, false, List, [], ◌∷◌, ◌++◌, drop, map, Option, None, Some, refl, sym, ap, ◌∙◌, subst, inl, inr, length, length-append, arith}
+use Rattle.std.specs.List.{slice_get}
+use Rattle.std.proofs.lemmas.List.{drop-drop, length-drop, length-take}
 use Rattle.std.proofs.lemmas.List.Concat.{flat_map-cons}
-use Rattle.std.proofs.lemmas.Option.{same_Some}
+use Rattle.std.proofs.lemmas.Option.{same_Some, slice_get_within}
 use Rattle.relay_tasks.specs.declared.fault.Fault.{Fault}
 use Rattle.relay_tasks.specs.declared.log.LogEntry.{LogEntry}
-use Rattle.relay_links.specs.Connector.{Offer}
 use Rattle.relay_links.specs.Link.{LinkState, LinkItems}
 use Rattle.relay_links.specs.ReadScript.{given_of, left_items, script_given, script_left, IsAtEnd}
 use Rattle.relay_links.specs.ReadScript as reads
@@ -19,20 +19,18 @@ use Rattle.relay_links.specs.declared.script_link.ScriptLink.{ScriptLink}
 use Rattle.relay_attempt.specs.Passed.{Passed}
 use Rattle.relay_proxy.specs.ClosingHooks.{Gives}
 use Rattle.relay_proxy.specs.Endings.{EndsWith, IsNoRequest}
-use Rattle.relay_proxy.specs.Bound.{OwnGave, most_sides}
+use Rattle.relay_proxy.specs.Bound.{OwnGave, most_sides, sides_before}
 use Rattle.relay_proxy.specs.Closing.{IsQuiet}
+use Rattle.relay_proxy.specs.Legs.{AreLegs, Leg, LegsWithin, behind, rebased}
 use Rattle.relay_proxy.proofs.BoundLemmas.{turns_bounded}
 use Rattle.relay_proxy.specs.Passed.{World, Start}
 use Rattle.relay_links.specs.declared.branch.Branch.{Branch}
-use Rattle.relay_proxy.specs.Refusals.{faults_for}
-use Rattle.relay_proxy.specs.Stock.{items_back}
-use Rattle.relay_proxy.specs.Taken.{AreNext}
 use Rattle.relay_links.specs.ListSchedule.{branches_left}
 use Rattle.relay_links.specs.declared.list_schedule.ListSchedule.{ListSchedule}
 use Rattle.relay_proxy.specs.declared.outcome.Outcome.{Outcome}
 use Rattle.relay_proxy.specs.declared.outcome.Outcome.TheVariants as ended
 use Rattle.relay_proxy.specs.declared.record.AttemptRecord.{AttemptRecord}
-use Rattle.relay_command.specs.Exchange.{peer_offer, peers_behind, offers_of, AreLinksOf, Place, world_at, first_place, start_at, IsRequest, Follows, AreRun, IsRun}
+use Rattle.relay_command.specs.Exchange.{AreLinksOf, GetsNext, IsRefusedBy, left_by, links_back, Place, world_at, first_place, start_at, IsRequest, Follows, AreRun, IsRun}
 use Rattle.relay_command.specs.Report.{RequestSpec, outcome_reuse}
 use Rattle.relay_json.specs.Script.{PeerSpec, ScriptSpec}
 
@@ -78,6 +76,13 @@ first_of : (script : ScriptSpec) (most : ℕ) (from : Place) (request : RequestS
 first_of script zero from request rest runs = absurd (not_empty request rest runs)
 first_of script (suc most) from request rest runs = record { to = runs.0; is = runs.1 }
 
+-- where a request begins to read its client is the same behind attempts that were
+-- tried again
+same_begin : (s : Start) (legs : List (Leg ScriptLink))
+    → ((behind s legs).ahead ≡ s.ahead) × ((behind s legs).given ≡ s.given)
+same_begin s [] = (refl, refl)
+same_begin s (leg ∷ legs) = same_begin (rebased s leg) legs
+
 -- a script whose client gives bytes first is never reported as no request at once
 pub never_none : (script : ScriptSpec) (request : RequestSpec) (rest : List RequestSpec) (b : ℕ)
     (bytes : List ℕ) (items : List ReadItem)
@@ -87,7 +92,9 @@ never_none script request rest b bytes items begins run none =
     let from = first_place run.client script.peers in
     let first = first_of script script.requests from request rest run.runs in
     let one = first.is in
-    let s = start_at script from one.processed.history.log in
+    let begun = start_at script from one.processed.history.log in
+    let s = behind begun one.run.legs in
+    let begins_same = same_begin begun one.run.legs in
     let w = world_at first.to in
     let last = first.to.client in
     let outcome : one.run.came ≡ ended.NoRequest =
@@ -97,12 +104,14 @@ never_none script request rest b bytes items begins run none =
     one.processed.history.attempts ended.NoRequest =
     rw outcome at one.run.ended.ends in
     let no = none_of s one.run.passed w one.run.own one.processed.history.attempts ends in
-    let fresh : told_length (script_state run.client).given ≡ 0 =
-    ap (λ (x : LinkState). told_length x.given) run.fresh.state in
+    let fresh : s.given ≡ 0 =
+    begins_same.1 ∙ ap (λ (x : LinkState). told_length x.given) run.fresh.state in
     let came = one.run.ended.tells.came in
+    let none_came : one.run.passed.came ≡ [] =
+    subst (λ (xs : List ℕ). xs ++ one.run.passed.came ≡ []) begins_same.0 no.no_byte in
     let given : script_given last.reads ≡ [] =
     subst (λ (n : ℕ). drop n (script_given last.reads) ≡ one.run.passed.came) fresh came.1
-    ∙ no.no_byte in
+    ∙ none_came in
     let is : last.reads.items.items ≡ item.Bytes (b ∷ bytes) ∷ items =
     items_same _ _ one.is_client ∙ begins in
     let at_end : IsAtEnd (script_left last.reads) = last.at_end no.ended in
@@ -111,31 +120,32 @@ never_none script request rest b bytes items begins run none =
     (subst (λ (xs : List ReadItem). IsAtEnd (left_items xs last.reads.at last.reads.done)) is
     at_end)
 
--- the next of these peers has that fault in place of a link, or there is none
-abbrev pub IsRefusedBy : List PeerSpec → Fault → Type 0
-IsRefusedBy [] fault = Unit {0}
-IsRefusedBy (peer ∷ peers) fault = peer_offer peer.connect peer ≡ Err fault
+-- an attempt that was refused a link asked a peer with that fault, or none was left
+refused_at : (attempts : List AttemptRecord) (peers : List PeerSpec)
+    (links : List (Returned ScriptLink)) (n : ℕ) (a : AttemptRecord) (fault : Fault)
+    → AreLinksOf peers attempts links → slice_get attempts n ≡ Some a → a.fault ≡ Some fault
+    → IsRefusedBy (drop n peers) fault
+refused_at [] peers links n a fault are at is =
+    absurd (let within : n < 0 = slice_get_within [] n a at in omega (arith, within))
+refused_at (b ∷ attempts) peers links zero a fault are at is =
+    let told : b.fault ≡ Some fault =
+    ap (λ (x : AttemptRecord). x.fault) (same_Some b a at) ∙ is in
+    subst (λ (o : Option Fault). GetsNext o peers links) told are.0
+refused_at (b ∷ attempts) peers links (suc n) a fault are at is =
+    subst (λ (ps : List PeerSpec). IsRefusedBy ps fault) (drop-drop n 1 peers)
+    (refused_at attempts (drop 1 peers) (left_by b.fault links) n a fault are.1 at is)
 
--- a fault that was next, whatever was behind it
-refused_next : (peers : List PeerSpec) (fault : Fault) (rest left : List Offer)
-    → AreNext (Err fault ∷ rest) (offers_of peers) left → IsRefusedBy peers fault
-refused_next [] fault rest left next = tt
-refused_next (peer ∷ peers) fault rest left next = next.0
-
--- a request tells that its connector gave no link only where the script says so, or has no peer
--- left
+-- an attempt tells that the connector refused it a link only where the script says so of the peer
+-- at its place, or has no peer left
 pub is_refused : (script : ScriptSpec) (from to : Place) (request : RequestSpec)
-    (one : IsRequest script from to request) (fault : Fault) (faults : List Fault)
-    → faults_for one.run.own one.processed.history.attempts ≡ fault ∷ faults
-    → IsRefusedBy from.peers fault
-is_refused script from to request one fault faults is =
-    refused_next from.peers fault
-    (map Err faults ++ map Ok (items_back script_start one.run.own)) (offers_of to.peers)
-    (subst (λ (fs : List Fault).
-    AreNext (map Err fs ++ map Ok (items_back script_start one.run.own)) (offers_of from.peers)
-    (offers_of to.peers)) is one.run.offered)
+    (one : IsRequest script from to request) (n : ℕ) (a : AttemptRecord) (fault : Fault)
+    → slice_get one.processed.history.attempts n ≡ Some a → a.fault ≡ Some fault
+    → IsRefusedBy (drop n from.peers) fault
+is_refused script from to request one n a fault at is =
+    refused_at one.processed.history.attempts from.peers (links_back one.run.legs one.run.own) n a
+    fault one.are_links at is
 
--- ---- the turns of a run
+-- ---- the bytes that the links of a request give
 
 -- items since a place are no more than what was told
 since_fits : (place : ℕ) (told items : List ℕ) → Since [] place (Some told) items
@@ -166,67 +176,161 @@ given_fits (item ∷ items) (suc at) done =
       first_bytes item items,
     )
 
--- nor does a link that answers by them
-link_fits : (link : ScriptLink) (read : List ReadItem) (write : List WriteItem) (place : ℕ)
-    (items : List ℕ) → AnswersBy link read write
-    → Since [] place (script_state link).given items
-    → length items ≤ length (reads.all_bytes read)
-link_fits link read write place items is since =
+-- how many bytes the items of a link have
+abbrev link_bytes : ScriptLink → ℕ
+link_bytes link = length (reads.all_bytes link.reads.items.items)
+
+-- a link gives no more than those
+link_fits : (link : ScriptLink) (place : ℕ) (items : List ℕ)
+    → Since [] place (script_state link).given items → length items ≤ link_bytes link
+link_fits link place items since =
     let fits = given_fits link.reads.items.items link.reads.at link.reads.done in
-    let by = ap (λ (xs : List ReadItem). length (reads.all_bytes xs)) (items_same _ _ is) in
-    omega (arith, since_fits place (script_given link.reads) items since, fits, by)
+    omega (arith, since_fits place (script_given link.reads) items since, fits)
 
--- how many bytes the link of the next of these peers gives at most
-abbrev pub next_bytes : List PeerSpec → ℕ
-next_bytes [] = 0
-next_bytes (peer ∷ peers) = length (reads.all_bytes peer.read)
+-- a link that answers by items has their bytes
+bytes_are : (link : ScriptLink) (read : List ReadItem) (write : List WriteItem)
+    → AnswersBy link read write → link_bytes link ≡ length (reads.all_bytes read)
+bytes_are link read write is =
+    ap (λ (xs : List ReadItem). length (reads.all_bytes xs)) (items_same _ _ is)
 
--- the one link that a request handed back, if it did, gives no more
-own_fits : (peers : List PeerSpec) (own : List (Returned ScriptLink)) (got : List ℕ)
-    → AreLinksOf peers own → OwnGave script_state script_start own got
-    → length got ≤ next_bytes peers
-own_fits peers [] got are gave = omega (arith, ap (λ (xs : List ℕ). length xs) gave)
-own_fits [] (r ∷ own) got are gave = absurd are
-own_fits (peer ∷ peers) (r ∷ []) got are gave =
-    link_fits r.link peer.read peer.write (script_start r.link).given got are.0 gave
-own_fits (peer ∷ peers) (r ∷ q ∷ own) got are gave = absurd gave
+-- how many bytes the items of the peer have which an attempt asked, by the fault of its record: of
+-- the next of these, where it had its link
+abbrev pub next_bytes : Option Fault → List PeerSpec → ℕ
+next_bytes (Some fault) peers = 0
+next_bytes None [] = 0
+next_bytes None (peer ∷ peers) = length (reads.all_bytes peer.read)
 
--- how many bytes the links of a request give at most: all of the client's, and those of the peer
--- which its last attempt asked
-abbrev pub bytes_in : ScriptSpec → Place → List AttemptRecord → ℕ
-bytes_in script from attempts =
-    length (reads.all_bytes script.client) + next_bytes (peers_behind from.peers attempts)
+-- and those of all attempts
+abbrev pub peer_bytes : List PeerSpec → List AttemptRecord → ℕ
+peer_bytes peers [] = 0
+peer_bytes peers (a ∷ attempts) = next_bytes a.fault peers + peer_bytes (drop 1 peers) attempts
+
+-- those of links
+abbrev links_bytes : List (Returned ScriptLink) → ℕ
+links_bytes [] = 0
+links_bytes (r ∷ links) = link_bytes r.link + links_bytes links
+
+links_append : (these those : List (Returned ScriptLink))
+    → links_bytes (these ++ those) ≡ links_bytes these + links_bytes those
+links_append [] those = refl
+links_append (r ∷ these) those = omega (arith, links_append these those)
+
+-- the link of an attempt has those of its peer
+next_fits : (told : Option Fault) (peers : List PeerSpec) (links : List (Returned ScriptLink))
+    → GetsNext told peers links
+    → links_bytes links ≤ next_bytes told peers + links_bytes (left_by told links)
+next_fits (Some fault) peers links gets = omega arith
+next_fits None peers [] gets = absurd gets
+next_fits None [] (r ∷ links) gets = absurd gets
+next_fits None (peer ∷ peers) (r ∷ links) gets =
+    omega (arith, bytes_are r.link peer.read peer.write gets.1)
+
+-- so the links of attempts have those of their peers
+links_fit : (attempts : List AttemptRecord) (peers : List PeerSpec)
+    (links : List (Returned ScriptLink)) → AreLinksOf peers attempts links
+    → links_bytes links ≤ peer_bytes peers attempts
+links_fit [] peers links none =
+    omega (arith, ap (λ (rs : List (Returned ScriptLink)). links_bytes rs) none)
+links_fit (a ∷ attempts) peers links are =
+    omega (
+      arith,
+      next_fits a.fault peers links are.0,
+      links_fit attempts (drop 1 peers) (left_by a.fault links) are.1,
+    )
+
+-- the link that the last part of a request handed back, if it did, gives no more
+own_fits : (own : List (Returned ScriptLink)) (got : List ℕ)
+    → OwnGave script_state script_start own got → length got ≤ links_bytes own
+own_fits [] got gave = omega (arith, ap (λ (xs : List ℕ). length xs) gave)
+own_fits (r ∷ []) got gave =
+    omega (arith, link_fits r.link (script_start r.link).given got gave)
+own_fits (r ∷ q ∷ own) got gave = absurd gave
+
+-- ---- the turns of a run
+
+-- how many bytes the client's link gave up to the end of each attempt that was tried again, of those
+-- that were counted so
+abbrev pub came_in : (tasks ends : ℕ) (legs : List (Leg ScriptLink))
+    → LegsWithin script_state script_start tasks ends legs → ℕ
+came_in tasks ends [] within = 0
+came_in tasks ends (leg ∷ legs) within =
+    length within.6.came + came_in within.2 within.3 legs within.7
+
+-- how many ends they had at most
+abbrev pub sides_in : List (Leg ScriptLink) → ℕ
+sides_in [] = 0
+sides_in (leg ∷ legs) = sides_before (1 + length leg.tries) + sides_in legs
+
+-- they moved no more tasks than twice the bytes that were given in them
+legs_fit : (s : Start) (tasks ends : ℕ) (legs : List (Leg ScriptLink)) → s.ahead ≡ []
+    → AreLegs script_state script_start s legs
+    → (within : LegsWithin script_state script_start tasks ends legs)
+    → (tasks ≤ 2 * (came_in tasks ends legs within
+    + links_bytes (map (λ (leg : Leg ScriptLink). leg.back) legs)))
+    × (ends ≤ sides_in legs)
+legs_fit s tasks ends [] clear are within = (omega (arith, within.0), omega (arith, within.1))
+legs_fit s tasks ends (leg ∷ legs) clear are within =
+    let w = within.6 in
+    let others = legs_fit (rebased s leg) within.2 within.3 legs clear are.2 within.7 in
+    let got = link_fits leg.back.link (script_start leg.back.link).given w.got w.own_gave in
+    let none : length leg.start.ahead ≡ 0 =
+    ap (λ (x : Start). length x.ahead) are.1.is_start ∙ ap (λ (xs : List ℕ). length xs) clear in (
+      omega (arith, within.4, w.tasks_within, none, got, others.0),
+      omega (arith, within.5, w.ends_within, others.1),
+    )
+
+-- how many bytes the links of a request give at most: all of the client's, those which it gave in
+-- attempts that were tried again, and those of the peers whose links its attempts had
+abbrev pub bytes_in : (script : ScriptSpec) (from to : Place) (request : RequestSpec)
+    → IsRequest script from to request → ℕ
+bytes_in script from to request one =
+    length (reads.all_bytes script.client)
+    + came_in one.run.tasks one.run.ends one.run.legs one.run.legs_within
+    + peer_bytes from.peers one.processed.history.attempts
+
+-- how many ends it has at most: six and its attempts, and those of the ones that were tried again
+abbrev pub ends_in : (script : ScriptSpec) (from to : Place) (request : RequestSpec)
+    → IsRequest script from to request → ℕ
+ends_in script from to request one =
+    sides_in one.run.legs + most_sides (length one.processed.history.attempts)
 
 -- a request of a run takes at most as many turns as its links answered, twice the bytes that they
--- have, six and its attempts, and the calls of its hooks
+-- have, its ends, and the calls of its hooks
 pub turns_within : (script : ScriptSpec) (from to : Place) (request : RequestSpec)
     (one : IsRequest script from to request)
     → one.processed.history.turns_taken
-    ≤ one.processed.history.items_used + 2 * bytes_in script from one.processed.history.attempts
-    + most_sides (length one.processed.history.attempts) + length one.processed.history.log
+    ≤ one.processed.history.items_used + 2 * bytes_in script from to request one
+    + ends_in script from to request one + length one.processed.history.log
 turns_within script from to request one =
-    let bound = one.run.bounded in
-    let w = bound.within in
-    let came = link_fits to.client script.client script.client_write _ w.came one.is_client
-    w.client_gave in
-    let got = own_fits (peers_behind from.peers one.processed.history.attempts) one.run.own w.got
-    one.are_links w.own_gave in
-    let none = ap (λ (xs : List ℕ). length xs) one.clear in
-    let turns = turns_bounded script_state script_start
-    (start_at script from one.processed.history.log) (script_state to.client) one.run.own
-    one.processed.history bound in
-    omega (arith, turns, came, got, none)
+    let run = one.run in
+    let s = start_at script from one.processed.history.log in
+    let last = behind s run.legs in
+    let w = run.bounded.within in
+    let came = link_fits to.client _ w.came w.client_gave in
+    let client = bytes_are to.client script.client script.client_write one.is_client in
+    let got = own_fits run.own w.got w.own_gave in
+    let none : length last.ahead ≡ 0 =
+    ap (λ (xs : List ℕ). length xs) ((same_begin s run.legs).0 ∙ one.clear) in
+    let legs = legs_fit s run.tasks run.ends run.legs one.clear run.are_legs run.legs_within in
+    let backs : List (Returned ScriptLink) = map (λ (leg : Leg ScriptLink). leg.back) run.legs in
+    let links = links_fit one.processed.history.attempts from.peers
+    (links_back run.legs run.own) one.are_links in
+    let all = links_append backs run.own in
+    let turns = turns_bounded script_state script_start last (script_state to.client) run.tasks
+    run.ends run.own one.processed.history run.bounded in
+    omega (arith, turns, came, client, got, none, legs.0, legs.1, links, all)
 
 -- so one that was given more turns is reported as out of turns only where all that it asks is
 -- silent
 pub limited : (script : ScriptSpec) (from to : Place) (request : RequestSpec)
     (one : IsRequest script from to request)
-    → one.processed.history.items_used + 2 * bytes_in script from one.processed.history.attempts
-    + most_sides (length one.processed.history.attempts) + length one.processed.history.log
+    → one.processed.history.items_used + 2 * bytes_in script from to request one
+    + ends_in script from to request one + length one.processed.history.log
     < script.turns
     → request.outcome ≡ ended.TurnLimit
-    → IsQuiet script_state script_start (start_at script from one.processed.history.log)
-    one.run.passed (world_at to) one.run.own
+    → IsQuiet script_state script_start
+    (behind (start_at script from one.processed.history.log) one.run.legs) one.run.passed
+    (world_at to) one.run.own
 limited script from to request one many is =
     elim (one.run.limit (sym one.outcome ∙ is)) [
       | inl all ↦ absurd (omega (arith, all, many, turns_within script from to request one))
@@ -250,6 +354,7 @@ request_free script branches from to request one = record {
   printable = one.printable;
   outcome = one.outcome;
   written = one.written;
+  passed = one.passed;
   attempts = one.attempts;
   log = one.log;
 }

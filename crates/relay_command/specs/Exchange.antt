@@ -1,5 +1,5 @@
 -- The requests of a client over scripted links, one behind the other, and what is reported of them.
-use Rattle.std.specs.Prelude.{◌≡◌, ◌≢◌, ℕ, zero, suc, ◌≤◌, List, [], ◌∷◌, length, drop, map, Bool, true, false, Option, Some, None, Ok, Err, unwrap_or, codes}
+use Rattle.std.specs.Prelude.{◌≡◌, ◌≢◌, ℕ, zero, suc, ◌≤◌, List, [], ◌∷◌, ◌++◌, length, drop, map, Bool, true, false, Option, Some, None, Ok, Err, unwrap_or, codes}
 use Rattle.relay_tasks.specs.declared.error.RetryType.{RetryType}
 use Rattle.relay_tasks.specs.declared.fault.Fault.{Fault}
 use Rattle.relay_tasks.specs.declared.log.LogEntry.{LogEntry}
@@ -22,9 +22,9 @@ use Rattle.relay_scripted.specs.declared.modules.ScriptModules.{ScriptModules}
 use Rattle.relay_scripted.specs.declared.proxy.ScriptProxy.{ScriptProxy}
 use Rattle.relay_phases.specs.Order.{Station}
 use Rattle.relay_proxy.specs.Calls.{IsLogged, allowed_by}
+use Rattle.relay_proxy.specs.Legs.{Leg}
 use Rattle.relay_proxy.specs.Passed.{World, Start, called_to, start_of}
 use Rattle.relay_proxy.specs.Request.{Processes}
-use Rattle.relay_proxy.specs.Tries.{tries_of}
 use Rattle.relay_proxy.specs.declared.outcome.Processed.{Processed}
 use Rattle.relay_proxy.specs.declared.outcome.Outcome.TheVariants.{OutOfMemory}
 use Rattle.relay_proxy.specs.declared.record.AttemptRecord.{AttemptRecord}
@@ -76,11 +76,33 @@ pub record IsConnectorOf (peers : List PeerSpec) (connector : ScriptConnector) :
   pub refusals : faults_answered connector ≡ Some []
   pub entries : AreEntriesOf peers (next_entries connector)
 
--- the links are those of the next peers, in order, and answer by their items
-abbrev pub AreLinksOf : List PeerSpec → List (Returned ScriptLink) → Type 0
-AreLinksOf peers [] = Unit {0}
-AreLinksOf [] (r ∷ own) = ⊥
-AreLinksOf (peer ∷ peers) (r ∷ own) = AnswersBy r.link peer.read peer.write × AreLinksOf peers own
+-- the next of these peers has that fault in place of a link, or there is none
+abbrev pub IsRefusedBy : List PeerSpec → Fault → Type 0
+IsRefusedBy [] fault = Unit {0}
+IsRefusedBy (peer ∷ peers) fault = peer_offer peer.connect peer ≡ Err fault
+
+-- the link is that of the next of these peers, and answers by its items
+abbrev pub IsLinkOf : List PeerSpec → ScriptLink → Type 0
+IsLinkOf [] link = ⊥
+IsLinkOf (peer ∷ peers) link = (peer.connect ≡ None) × AnswersBy link peer.read peer.write
+
+-- what an attempt, by the fault of its record, got of the next of these peers: it was refused a
+-- link with that, or it has none, and had the first of these links
+abbrev pub GetsNext : Option Fault → List PeerSpec → List (Returned ScriptLink) → Type 0
+GetsNext (Some fault) peers links = IsRefusedBy peers fault
+GetsNext None peers [] = ⊥
+GetsNext None peers (r ∷ links) = IsLinkOf peers r.link
+
+-- what such an attempt leaves of a list that has one for each attempt with a link
+abbrev pub left_by : {X : Type 0} → Option Fault → List X → List X
+left_by (Some fault) xs = xs
+left_by None xs = drop 1 xs
+
+-- each attempt asked the next of these peers, and these are the links that they gave, in order
+abbrev pub AreLinksOf : List PeerSpec → List AttemptRecord → List (Returned ScriptLink) → Type 0
+AreLinksOf peers [] links = links ≡ []
+AreLinksOf peers (a ∷ attempts) links =
+    GetsNext a.fault peers links × AreLinksOf (drop 1 peers) attempts (left_by a.fault links)
 
 -- ---- the application of a script
 
@@ -109,18 +131,21 @@ abbrev pub attempt_report : List ℕ → List ℕ → AttemptRecord → AttemptR
 attempt_report name sent a =
     record { name = name; reused = a.reused; kept = a.kept; error = a.error; sent = sent }
 
--- the bytes that the link of an attempt took, with so many behind it: only the last one has a link
-abbrev pub sent_before : List ℕ → List AttemptRecord → List ℕ
-sent_before sent [] = sent
-sent_before sent (a ∷ attempts) = []
+-- the bytes that the link of an attempt took, by the fault of its record and what the links from
+-- there on took: an attempt that has none had the first of them
+abbrev pub sent_by : Option Fault → List (List ℕ) → List ℕ
+sent_by (Some fault) sents = []
+sent_by None [] = []
+sent_by None (sent ∷ sents) = sent
 
--- what is reported of attempts at the peers of those names, in order, the last of which had a link
--- that took those bytes, or none
-abbrev pub attempt_reports : List (List ℕ) → List ℕ → List AttemptRecord → List AttemptReport
-attempt_reports names sent [] = []
-attempt_reports names sent (a ∷ attempts) =
-    attempt_report (first_name names) (sent_before sent attempts) a
-    ∷ attempt_reports (drop 1 names) sent attempts
+-- what is reported of attempts at the peers of those names, in order, the links of which took those
+-- bytes
+abbrev pub attempt_reports : List (List ℕ) → List (List ℕ) → List AttemptRecord
+    → List AttemptReport
+attempt_reports names sents [] = []
+attempt_reports names sents (a ∷ attempts) =
+    attempt_report (first_name names) (sent_by a.fault sents) a
+    ∷ attempt_reports (drop 1 names) (left_by a.fault sents) attempts
 
 -- all bytes that a link took
 abbrev pub taken_of : ScriptLink → List ℕ
@@ -134,22 +159,22 @@ taken_since link = drop (script_start link).taken (taken_of link)
 abbrev pub StartsWithin : ScriptLink → Type 0
 StartsWithin link = (script_start link).taken ≤ length (taken_of link)
 
--- the bytes that the first link of a list took since it was handed out; none where there is none
-abbrev pub sent_of : List (Returned ScriptLink) → List ℕ
-sent_of [] = []
-sent_of (r ∷ rest) = taken_since r.link
+-- so had each of these
+abbrev pub StartWithin : List (Returned ScriptLink) → Type 0
+StartWithin [] = Unit {0}
+StartWithin (r ∷ links) = StartsWithin r.link × StartWithin links
 
-abbrev pub FirstStartsWithin : List (Returned ScriptLink) → Type 0
-FirstStartsWithin [] = Unit {0}
-FirstStartsWithin (r ∷ rest) = StartsWithin r.link
+-- the bytes that each of these links took since it was handed out
+abbrev pub sents_of : List (Returned ScriptLink) → List (List ℕ)
+sents_of links = map (λ r. taken_since r.link) links
 
 -- what is reported of a request at the peers of those names, whose client's link took those bytes
 -- in it, and which handed these links back
 abbrev pub reported : List (List ℕ) → Processed → List ℕ → List (Returned ScriptLink) → RequestSpec
-reported names processed written own = record {
+reported names processed written links = record {
   outcome = processed.outcome;
   written = written;
-  attempts = attempt_reports names (sent_of own) processed.history.attempts;
+  attempts = attempt_reports names (sents_of links) processed.history.attempts;
   log = log_lines processed.history.log;
 }
 
@@ -182,13 +207,18 @@ first_place client peers = record {
   peers = peers;
 }
 
--- the peers of which the last of those attempts asked the first
-abbrev pub peers_behind : List PeerSpec → List AttemptRecord → List PeerSpec
-peers_behind peers attempts = drop (length (tries_of attempts)) peers
-
 -- where a request begins at a place, once these calls of hooks were made
 abbrev pub start_at : ScriptSpec → Place → List LogEntry → Start
 start_at script from log = called_to (start_of script.retries (world_at from)) log
+
+-- the links that a request handed back: those of attempts that were tried again, and its last one
+abbrev pub links_back : List (Leg ScriptLink) → List (Returned ScriptLink)
+    → List (Returned ScriptLink)
+links_back legs own = map (λ leg. leg.back) legs ++ own
+
+-- the bytes that they took, where the last one took these
+abbrev pub sents_in : List (Leg ScriptLink) → List ℕ → List (List ℕ)
+sents_in legs sent = map (λ leg. leg.passed.sent) legs ++ sent ∷ []
 
 -- one request of a run, from one such place to the next, and what is reported of it
 pub record IsRequest (script : ScriptSpec) (from to : Place) (request : RequestSpec) : Type 0 where
@@ -201,18 +231,22 @@ pub record IsRequest (script : ScriptSpec) (from to : Place) (request : RequestS
       (Some (offers_of from.peers)) (Some (offers_of to.peers))
       (script_state from.client) script.turns processed
   pub asked : to.peers ≡ drop (length processed.history.attempts) from.peers
-  pub are_links : AreLinksOf (peers_behind from.peers processed.history.attempts) run.own
+  pub are_links : AreLinksOf from.peers processed.history.attempts (links_back run.legs run.own)
   -- each call of a hook did what the script's rules say
   pub logged : IsLogOf (application_of script.rules) processed.history.log
   -- the client's link is the script's, and nothing was read ahead from it before
   pub is_client : AnswersBy to.client script.client script.client_write
   pub clear : from.ahead ≡ []
-  -- what is reported is the outcome, what passed, and the calls of the hooks
+  -- what is reported is the outcome, what passed, and the calls of the hooks. Of the client's link
+  -- that is what it took since; where no attempt was tried again, that is what was written. Where
+  -- one was, nothing says that what it took before stayed in front of that
   pub printable : request.outcome ≢ OutOfMemory
   pub outcome : request.outcome ≡ processed.outcome
-  pub written : request.written ≡ run.passed.written
-  pub attempts : request.attempts
-      ≡ attempt_reports (names_of from.peers) run.passed.sent processed.history.attempts
+  pub written : request.written
+      ≡ drop (length (taken_of from.client)) (taken_of to.client)
+  pub passed : run.legs ≡ [] → request.written ≡ run.passed.written
+  pub attempts : request.attempts ≡ attempt_reports (names_of from.peers)
+      (sents_in run.legs run.passed.sent) processed.history.attempts
   pub log : request.log ≡ log_lines processed.history.log
 
 -- what follows a request: the next ones where the client goes back, and else none

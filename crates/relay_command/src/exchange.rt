@@ -1,8 +1,8 @@
 //! The requests of a client over scripted links: the proxy between the client and the peers of a
 //! script, one request behind the other while the client goes back (RFC 9112, section 9.3).
-ghost use Rattle.std.specs.Prelude.{◌≡◌, ◌↔◌, ◌≤◌, ◌+◌, [], List, drop, length, if◌then◌else◌, IsTrue, IfOk, OnOk};
+ghost use Rattle.std.specs.Prelude.{◌≡◌, ◌↔◌, List, drop, length, IsTrue, IfOk, OnOk};
 ghost use Rattle.relay_links.specs.ListSchedule.{branches_left};
-ghost use Rattle.relay_command.specs.Exchange.{attempt_report, attempt_reports, taken_since, StartsWithin, sent_of, FirstStartsWithin, first_name, names_of, AreEntriesOf, IsConnectorOf, IsAt, Begins, Runs, IsRun, application_of, reported};
+ghost use Rattle.relay_command.specs.Exchange.{attempt_report, attempt_reports, left_by, sent_by, taken_since, StartsWithin, StartWithin, sents_of, first_name, names_of, AreEntriesOf, IsConnectorOf, IsAt, Begins, Runs, IsRun, application_of, reported};
 ghost use Rattle.relay_command.specs.Report.{request_spec, request_specs};
 ghost use Rattle.relay_json.specs.Script.{PeerSpec, ScriptSpec, peer_spec, peer_specs, script_spec};
 
@@ -202,17 +202,16 @@ fn request_report(
     names: &mut VecDeque<Bytes>,
     processed: &Processed,
     written: &[u8],
-    own: &[Returned<ScriptLink>],
+    links: &[Returned<ScriptLink>],
 ) -> Result<RequestReport, AllocError>
-    requires { FirstStartsWithin own.now }
+    requires { StartWithin links.now }
     ensures { IfOk result (λ request. (request_spec request
-        ≡ reported names.old.items processed.now written.now own.now)
+        ≡ reported names.old.items processed.now written.now links.now)
         × (names.new.items ≡ drop (length processed.now.history.attempts) names.old.items)) }
 {
     let written = Bytes::copy_from_slice(alloc, written)?;
-    let sent = sent_bytes(alloc, own)?;
     let log = log_lines(alloc, &processed.history.log)?;
-    let attempts = attempt_reports(alloc, names, &sent, &processed.history.attempts)?;
+    let attempts = attempt_reports(alloc, names, links, &processed.history.attempts)?;
     Ok(RequestReport {
         outcome: processed.outcome,
         written,
@@ -221,36 +220,50 @@ fn request_report(
     })
 }
 
-/// What the attempts came to, each at the next of the peers, whose name is taken; the link of the
-/// last one took those bytes, or it had none.
+/// What the attempts came to, each at the next of the peers, whose name is taken. Each that had a
+/// link had the next of these.
 fn attempt_reports(
     alloc: Global,
     names: &mut VecDeque<Bytes>,
-    sent: &Bytes,
+    links: &[Returned<ScriptLink>],
     attempts: &AttemptList,
 ) -> Result<Vec<AttemptReport>, AllocError>
+    requires { StartWithin links.now }
     ensures reports { IfOk result (λ reports. reports.items
-        ≡ attempt_reports names.old.items sent.now attempts.now) }
+        ≡ attempt_reports names.old.items (sents_of links.now) attempts.now) }
     ensures left { OnOk result (names.new.items ≡ drop (length attempts.now) names.old.items) }
 {
     let mut reports = Vec::new(alloc);
+    let mut rest = links;
     while let Some(attempt) = attempts.get(reports.len()) {
-        let is_last = reports.len() + 1 == attempts.len();
-        let sent = sent_before(sent, is_last)?;
+        let (sent, behind) = take_sent(alloc, rest, attempt)?;
         let report = attempt_report(take_name(names), sent, attempt);
         reports.push(report)?;
+        rest = behind;
     }
     Ok(reports)
 }
 
-/// What the link of an attempt took: these bytes where it is the last, and else none.
-fn sent_before(sent: &Bytes, is_last: bool) -> Result<Bytes, AllocError>
-    ensures { IfOk result (λ bytes. bytes ≡ (if is_last then sent.now else [])) }
+/// What the link of an attempt took, and the links behind it: an attempt that had one had the first
+/// of these.
+fn take_sent<'a>(
+    alloc: Global,
+    links: &'a [Returned<ScriptLink>],
+    attempt: &AttemptRecord,
+) -> Result<(Bytes, &'a [Returned<ScriptLink>]), AllocError>
+    requires { StartWithin links.now }
+    ensures { IfOk result (λ taken. (taken.0 ≡ sent_by attempt.now.fault (sents_of links.now))
+        × (taken.1.now ≡ left_by attempt.now.fault links.now)) }
 {
-    if is_last {
-        sent.clone()
-    } else {
-        Ok(Bytes::new())
+    if !attempt.has_link() {
+        return Ok((Bytes::new(), links));
+    }
+    match links {
+        [] => Ok((Bytes::new(), links)),
+        [first, rest @ ..] => {
+            let sent = Bytes::copy_from_slice(alloc, taken_since(&first.link))?;
+            Ok((sent, rest))
+        }
     }
 }
 
@@ -264,20 +277,6 @@ fn attempt_report(name: Bytes, sent: Bytes, attempt: &AttemptRecord) -> AttemptR
         kept: attempt.kept,
         error: attempt.error,
         sent,
-    }
-}
-
-/// The bytes that the first link of a list took since it was handed out.
-fn sent_bytes(alloc: Global, own: &[Returned<ScriptLink>]) -> Result<Bytes, AllocError>
-    requires { FirstStartsWithin own.now }
-    ensures { IfOk result (λ bytes. bytes ≡ sent_of own.now) }
-{
-    match own {
-        [] => Ok(Bytes::new()),
-        [first, ..] => {
-            let bytes = Bytes::copy_from_slice(alloc, taken_since(&first.link))?;
-            Ok(bytes)
-        }
     }
 }
 

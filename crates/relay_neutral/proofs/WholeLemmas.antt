@@ -27,6 +27,7 @@ use Rattle.relay_proxy.specs.Ahead.{IsOwedAhead}
 use Rattle.relay_proxy.specs.ClosingHooks.{Gives}
 use Rattle.relay_proxy.specs.Endings.{EndsAhead}
 use Rattle.relay_proxy.specs.Exact.{IsUnfinished}
+use Rattle.relay_proxy.specs.Legs.{behind}
 use Rattle.relay_proxy.specs.Passed.{Start, World}
 use Rattle.relay_proxy.specs.declared.outcome.Outcome.{Outcome}
 use Rattle.relay_proxy.specs.declared.outcome.Outcome.TheVariants.{Served}
@@ -134,10 +135,11 @@ module _ {L : Type 0} (state : L → LinkState) (start_at : L → LinkStart) whe
   pub whole : NeutralIsWhole state start_at
   whole s w before after told_before told_after had has client turns processed run head all
       relayable can asks answers faultless =
+      let t = behind s run.legs in
       given_whole processed.history.log run.came processed.outcome run.given
       (run.exact.whole head relayable
-      (λ told ahead. neutral_passes s run.passed w told ahead all)
-      (λ keep e refuses. neutral_refuses s.called head keep e refuses all can)
-      (λ sent sends. neutral_agrees s.called head sent asks.is_request.framing sends all
+      (λ told ahead. neutral_passes t run.passed w told ahead all)
+      (λ keep e refuses. neutral_refuses t.called head keep e refuses all can)
+      (λ sent sends. neutral_agrees t.called head sent asks.is_request.framing sends all
       asks.is_request.has.framed)
       asks (λ r sent one sends. answers r sent one sends) faultless)

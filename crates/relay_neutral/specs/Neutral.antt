@@ -16,6 +16,7 @@ use Rattle.relay_links.specs.declared.Returned.{Returned}
 use Rattle.relay_phases.specs.Order.{is_answer}
 use Rattle.relay_valid.specs.Valid.{AsksFor, AnswersWith}
 use Rattle.relay_proxy.specs.Exact.{IsFaultless, IsUnfinished}
+use Rattle.relay_proxy.specs.Legs.{behind}
 use Rattle.relay_proxy.specs.Passed.{Start, World, origin_of}
 use Rattle.relay_proxy.specs.Relayable.{IsRelayable}
 use Rattle.relay_proxy.specs.Request.{Processes}
@@ -53,19 +54,20 @@ CanBeSent head = (e : Error)
 
 module _ {L : Type 0} (state : L → LinkState) (start_at : L → LinkStart) where
   -- a request whose calls changed nothing, whose client gave the front of a valid request of a form
-  -- that is relayed and that can be sent, and then was still, and whose peer gave the front of a
-  -- valid response and ended only behind it, with no fault: it is served without an error, or
-  -- unfinished, also where turns or memory ran out in the hooks of its end
+  -- that is relayed and that can be sent, and then was still, and the peer of whose last attempt
+  -- gave the front of a valid response and ended only behind it, with no fault: it is served without
+  -- an error, or unfinished, also where turns or memory ran out in the hooks of its end
   abbrev pub NeutralIsWhole : Type 0
   NeutralIsWhole = (s : Start) (w : World) (before after : Option (List (Returned L)))
       (told_before told_after : Option (List Fault)) (had has : Option (List Offer))
       (client : LinkState) (turns : ℕ) (processed : Processed)
       → (run : Processes state start_at s w before after told_before told_after had has client turns
       processed)
-      → (head : RequestHead) → All (IsNeutral head) s.called → IsRelayable head → CanBeSent head
-      → AsksFor (origin_of s head head false) run.passed w.client
-      → ((r : Returned L) (sent : RequestHead) → run.own ≡ r ∷ [] → Sends s.called head sent
+      → (head : RequestHead) → All (IsNeutral head) (behind s run.legs).called → IsRelayable head
+      → CanBeSent head → AsksFor (origin_of (behind s run.legs) head head false) run.passed w.client
+      → ((r : Returned L) (sent : RequestHead) → run.own ≡ r ∷ []
+      → Sends (behind s run.legs).called head sent
       → AnswersWith sent.method false run.passed (state r.link))
-      → IsFaultless state start_at s w run.own
+      → IsFaultless state start_at (behind s run.legs) w run.own
       → IsUnfinished processed.outcome
       ⊎ ((reuse : Bool) × (processed.outcome ≡ Served None reuse))

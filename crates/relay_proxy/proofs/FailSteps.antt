@@ -5,9 +5,11 @@
 --   leaves_part, broken_part   what passed is a part of one exchange, or nothing
 --   left_memory, left_broken   the phase behind the exchange
 --   treated_on, answered_on    the phase behind the treatment, and behind the answer
---   treated_lost               that where memory was wanted
+--   unasked                    memory was wanted for the call behind which another attempt follows
+--   repeats_called             another attempt follows
+--   treated_lost               the phase where memory was wanted
 use Rattle.std.specs.Global.{Box}
-use Rattle.std.proofs.Common.{◌≡◌, ℕ, ◌<◌, Bool, true, false, not, List, [], ◌∷◌, ◌++◌, length, Some, refl, sym, ap, subst, ◌∙◌, inl, inr, arith, append-nil}
+use Rattle.std.proofs.Common.{◌≡◌, ℕ, ◌+◌, ◌<◌, Bool, true, false, not, List, [], ◌∷◌, ◌++◌, length, Some, refl, sym, ap, subst, ◌∙◌, inl, inr, arith, append-nil, true≢false}
 use Rattle.std.specs.Prelude.{◌==◌, ◌⊎◌}
 use Rattle.relay_tasks.specs.Head.{RequestHead}
 use Rattle.relay_tasks.specs.declared.Error.{Error}
@@ -17,9 +19,12 @@ use Rattle.relay_tasks.specs.declared.log.LogEntry.{LogEntry}
 use Rattle.relay_tasks.specs.declared.task.HttpTask.{HttpTask}
 use Rattle.relay_links.specs.Link.{LinkState, LinkStart, IsHandedOut}
 use Rattle.relay_session.specs.Asked.{request_of}
-use Rattle.relay_session.specs.Response.{Holds, HoldsOn, IsOpen, pending}
+use Rattle.relay_session.specs.Reading.{head_of}
+use Rattle.relay_session.specs.Response.{Holds, HoldsOn, IsOpen, has_head, pending}
+use Rattle.relay_session.specs.Session.{is_as_begun}
 use Rattle.relay_session.specs.TaskWire.{Sent, wire}
 use Rattle.relay_session.specs.declared.session.HttpSession.{HttpSession}
+use Rattle.relay_session.specs.declared.task_text.Place.{Place}
 use Rattle.relay_session.specs.declared.task_text.Place.TheVariants as place
 use Rattle.relay_session.specs.declared.task_text.Request.{Request}
 use Rattle.relay_session.specs.declared.writing.Outgoing.{Outgoing}
@@ -27,33 +32,45 @@ use Rattle.relay_session.specs.declared.writing.Outgoing.TheVariants as outgoing
 use Rattle.relay_session.specs.declared.writing.Writing.{Writing}
 use Rattle.relay_hooks.specs.Standing.{Standing}
 use Rattle.relay_phases.specs.Order.{Station}
-use Rattle.relay_phases.specs.Turns.{wrote_in}
+use Rattle.relay_phases.specs.Order.{Station as station}
+use Rattle.relay_phases.specs.Turns.{QueuesNothing, Turns, wrote_in}
+use Rattle.relay_opening.specs.Told.{head_behind}
+use Rattle.relay_opening.specs.declared.place.End.TheVariants as end
+use Rattle.relay_opening.specs.declared.place.Place.TheVariants as stage
 use Rattle.relay_trying.specs.Trying.{Treats, may_follow, treated_at}
 use Rattle.relay_closing.specs.Queued.{QueuesOnce}
+use Rattle.relay_core.specs.Past.{Origin}
+use Rattle.relay_sides.specs.Client.{BeginsBehind}
 use Rattle.relay_peer.specs.Body.{IsFrontOf}
 use Rattle.relay_attempt.specs.Order.{order_of, queued_in}
 use Rattle.relay_attempt.specs.Passed.{Passed}
 use Rattle.relay_proxy.specs.Answer.{answer_to, owed_text, WaitsOf}
-use Rattle.relay_proxy.specs.Calls.{log_of, seen_with}
+use Rattle.relay_proxy.specs.Calls.{CallsNext, GoesOn, IsUnended, TakesNext, leads_at, log_of, seen_with}
 use Rattle.relay_proxy.specs.Endings.{IsInOrder, IsGiven, FailsToWrite, IsPartRelayed, Misses}
 use Rattle.relay_proxy.specs.Leaving.{Answers}
-use Rattle.relay_proxy.specs.Passed.{World, Start, closed_to, opened_to, IsUnsent, IsUntouched, TellsClient}
+use Rattle.relay_proxy.specs.Legs.{FailsAgain, RepeatsOn}
+use Rattle.relay_proxy.specs.Passed.{World, Start, based, called_to, closed_to, opened_to, origin_of, IsUnsent, IsUntouched, TellsClient}
 use Rattle.relay_proxy.specs.Phases.{IsBroken, IsCalm, IsGoing, IsLeased, LeavesAhead, LeavesSession, PhaseHolds, RunSoFar}
+use Rattle.relay_proxy.specs.Relayable.{IsAccepted}
 use Rattle.relay_proxy.specs.Sent.{IsAnswered, IsTreated}
-use Rattle.relay_proxy.specs.Tries.{tries_in}
+use Rattle.relay_proxy.specs.Tries.{MayTry, tries_in}
 use Rattle.relay_proxy.specs.Turn.{Advances}
+use Rattle.relay_proxy.specs.declared.calls.At.{At}
+use Rattle.relay_proxy.specs.declared.calls.At.TheVariants as at
 use Rattle.relay_proxy.specs.declared.calls.Calls.{Calls}
+use Rattle.relay_proxy.specs.declared.calls.Opened.TheVariants as led
 use Rattle.relay_proxy.specs.declared.machine.Lease.{Lease}
 use Rattle.relay_proxy.specs.declared.machine.Phase.{Phase}
-use Rattle.relay_proxy.specs.declared.machine.Phase.TheVariants.{Broken, Fail, Close}
+use Rattle.relay_proxy.specs.declared.machine.Phase.TheVariants.{Again, Broken, Fail, Close}
 use Rattle.relay_proxy.specs.declared.outcome.Outcome.TheVariants as outcome
+use Rattle.relay_proxy.proofs.AgainLemmas.{IsUnqueued, as_begun_before, as_begun_parts, based_begins, begins_accepted, begins_any, unqueued_parts}
 use Rattle.relay_proxy.proofs.AnswerSteps.{ends_missed}
 use Rattle.relay_proxy.proofs.CutLemmas.{cut_next}
 use Rattle.relay_proxy.proofs.NamedLemmas.{TellsSame, tells_same}
 use Rattle.relay_proxy.proofs.OpenHead.{exchange_open}
-use Rattle.relay_proxy.proofs.OpenSteps.{called_tells, closed_accepted, closed_tells, once_goes_on, once_open, once_request, stays_connecting}
+use Rattle.relay_proxy.proofs.OpenSteps.{begins_on, called_accepted, called_tells, closed_accepted, closed_tells, left_on, once_goes_on, once_open, once_request, stays_connecting, wrote_on}
 use Rattle.relay_proxy.proofs.PrepareSteps.{leased_on}
-use Rattle.relay_proxy.proofs.TreatLemmas.{refuses_on, sends_on}
+use Rattle.relay_proxy.proofs.TreatLemmas.{refuses_on, sends_on, still_open, unended_more}
 
 -- ---- what waits
 
@@ -96,22 +113,22 @@ was_broken s client old new wrote queues broken (outgoing.Broken before) is faul
     broken before is
 
 -- what waits once the answer to the error was queued, by what was queued before
-queued_by : (s : Start) (p : Passed) (client link : LinkState) (start : LinkStart)
-    (session : HttpSession) (new : Writing) (raised : Error) (wrote : List HttpTask)
-    (l : LeavesSession s p client link start session raised)
+queued_by : (s : Start) (p : Passed) (client : LinkState) (ahead : List ℕ) (link : LinkState)
+    (start : LinkStart) (session : HttpSession) (new : Writing) (raised : Error)
+    (wrote : List HttpTask) (l : LeavesSession s p client ahead link start session raised)
     → QueuesOnce session.writing new wrote
     → Queued s p.written (owed_text (order_of l.why) wrote) client new.output
-queued_by s p client link start session new raised wrote l queues =
+queued_by s p client ahead link start session new raised wrote l queues =
     queued_of s l.head p.written client new (queued_in (order_of l.why) ++ wrote) new.output refl
     (once_request session.writing new wrote queues ∙ l.answers)
     (once_goes_on session.writing new wrote queues (queued_in (order_of l.why)) p.written l.holds)
     (was_broken s client session.writing new wrote queues l.broken session.writing.output refl)
 
 -- what passed is a part of one exchange
-pub leaves_part : (s : Start) (p : Passed) (client link : LinkState) (start : LinkStart)
-    (session : HttpSession) (e : Error) → LeavesSession s p client link start session e
-    → IsPartRelayed s p link start
-leaves_part s p client link start session e l =
+pub leaves_part : (s : Start) (p : Passed) (client : LinkState) (ahead : List ℕ) (link : LinkState)
+    (start : LinkStart) (session : HttpSession) (e : Error)
+    → LeavesSession s p client ahead link start session e → IsPartRelayed s p link start
+leaves_part s p client ahead link start session e l =
     record {
       head = l.head;
       sent = l.sent;
@@ -128,7 +145,7 @@ pub broken_part : (s : Start) (p : Passed) (w : World) (link : LinkState) (start
     → IsBroken s p w link start session lease keep e
     → IsPartRelayed s p link start ⊎ ((p.written ≡ []) × IsUnsent p)
 broken_part s p w link start session lease keep e (IsBroken.in_exchange l kept) =
-    inl (leaves_part s p w.client link start session e l)
+    inl (leaves_part s p w.client w.ahead link start session e l)
 broken_part s p w link start session lease keep e (IsBroken.ahead_of_it l) =
     inr (l.connecting.written, l.connecting.unsent)
 
@@ -201,10 +218,11 @@ module _ {L C : Type 0} (state : L → LinkState) (start_at : L → LinkStart)
 
     -- the error is to be treated
     pub left_broken : (context : C) (session : HttpSession) (box : Box HttpSession) (e : Error)
-        → LeavesSession s p w.client (state link) (start_at link) session e → box.value ≡ session
+        → LeavesSession s p w.client w.ahead (state link) (start_at link) session e
+        → box.value ≡ session
         → Advances {C = C} state start_at s w (Broken context box link lease false e)
     left_broken context session box e l is =
-        let part = leaves_part s p w.client (state link) (start_at link) session e l in
+        let part = leaves_part s p w.client w.ahead (state link) (start_at link) session e l in
         record {
           passed = p;
           run = record {
@@ -216,7 +234,7 @@ module _ {L C : Type 0} (state : L → LinkState) (start_at : L → LinkStart)
             holds = (
               leased,
               IsBroken.in_exchange
-                  (subst (λ (h : HttpSession). LeavesSession s p w.client (state link)
+                  (subst (λ (h : HttpSession). LeavesSession s p w.client w.ahead (state link)
                   (start_at link) h e) (sym is) l) refl,
             );
           };
@@ -245,11 +263,19 @@ writes_on s these those client fails = record {
 -- what was told of an attempt that failed, where that was its session, and nothing of it was queued
 -- since
 session_on : (s : Start) (these those : List LogEntry) (e : LogEntry) → those ≡ these ++ e ∷ []
-    → e.hook ≡ hook.ErrorWhileProxy → (p : Passed) (client link : LinkState) (start : LinkStart)
-    (session left : HttpSession) (raised : Error) → left.writing ≡ session.writing
-    → LeavesSession (opened_to s these) p client link start session raised
-    → LeavesSession (opened_to s those) p client link start left raised
-session_on s these those e more is p client link start session left raised same l = record {
+    → e.hook ≡ hook.ErrorWhileProxy → (p : Passed) (client : LinkState) (ahead : List ℕ)
+    (link : LinkState) (start : LinkStart) (session left : HttpSession) (raised : Error)
+    → left.writing ≡ session.writing
+    → ((head : RequestHead) → head_of session.reading ≡ Some (head_behind head these)
+    → head_of left.reading ≡ Some (head_behind head those))
+    → (wrote_in these ≡ [] → wrote_in those ≡ [])
+    → (is_as_begun left ≡ true → is_as_begun session ≡ true)
+    → ((o : Origin) → BeginsBehind o p.came client ahead session
+    → BeginsBehind o p.came client ahead left)
+    → LeavesSession (opened_to s these) p client ahead link start session raised
+    → LeavesSession (opened_to s those) p client ahead link start left raised
+session_on s these those e more is p client ahead link start session left raised same left_so quiet
+    before begins l = record {
   head = l.head;
   sent = l.sent;
   relayable = l.relayable;
@@ -259,6 +285,10 @@ session_on s these those e more is p client link start session left raised same 
   holds = subst (λ (w : Writing). Holds w (queued_in (order_of l.why)) p.written) (sym same) l.holds;
   broken = λ fault broken. writes_on s these those client
       (l.broken fault (sym (ap (λ (w : Writing). w.output) same) ∙ broken));
+  is_left = left_so l.head l.is_left;
+  quiet = quiet l.quiet;
+  again = λ begun.
+      begins (origin_of (based s client) l.head l.sent start.reused) (l.again (before begun));
 }
 
 -- ---- it is treated
@@ -293,8 +323,17 @@ module _ {L C M K : Type 0} (state : L → LinkState) (start_at : L → LinkStar
         raised
     broken_still (IsBroken.in_exchange l kept) =
         IsBroken.in_exchange
-        (session_on s (log_of c) (log_of d) t.call.turn.e more t.call.turn.hook p w.client
-        (state link) (start_at link) session.value left.value raised t.call.turn.queued.same l) kept
+        (session_on s (log_of c) (log_of d) t.call.turn.e more t.call.turn.hook p w.client w.ahead
+        (state link) (start_at link) session.value left.value raised t.call.turn.queued.same
+        (left_on allows c d session.value left.value mark behind hook.ErrorWhileProxy from
+        (treated_at (may_follow treated (seen_with c session.value))) QueuesNothing t.call.turn)
+        (λ quiet. wrote_on allows c d session.value left.value mark behind hook.ErrorWhileProxy from
+        (treated_at (may_follow treated (seen_with c session.value))) QueuesNothing t.call.turn
+        quiet ∙ t.call.turn.queued.wrote_none)
+        (as_begun_before (seen_with c session.value) (seen_with d left.value)
+        t.call.turn.calls.reads t.call.turn.queued.same)
+        (λ o begins. begins_on o p.came w.client w.ahead (seen_with c session.value)
+        (seen_with d left.value) t.call.turn.calls.reads t.call.turn.queued.same begins) l) kept
     broken_still (IsBroken.ahead_of_it l) = IsBroken.ahead_of_it (record {
       connecting = stays_connecting allows c d session.value left.value mark behind
           hook.ErrorWhileProxy from (treated_at (may_follow treated (seen_with c session.value)))
@@ -309,8 +348,8 @@ module _ {L C M K : Type 0} (state : L → LinkState) (start_at : L → LinkStar
         lease keep raised → IsInOrder (opened_to s (log_of d)) p
     order_still (IsBroken.in_exchange l kept) =
         part_order (opened_to s (log_of d)) p (state link) (start_at link)
-        (leaves_part (opened_to s (log_of d)) p w.client (state link) (start_at link) left.value
-        raised l)
+        (leaves_part (opened_to s (log_of d)) p w.client w.ahead (state link) (start_at link)
+        left.value raised l)
     order_still (IsBroken.ahead_of_it l) =
         IsInOrder.is_nothing l.connecting.written l.connecting.unsent.sent
 
@@ -344,6 +383,7 @@ closed_leased s log closed p link start lease leased = record {
   recorded = leased.recorded;
   reused = leased.reused;
   tries = record {
+    fits = leased.tries.fits;
     told = leased.tries.told;
     each = leased.tries.each;
     allowed = leased.tries.allowed;
@@ -352,10 +392,11 @@ closed_leased s log closed p link start lease leased = record {
 
 -- an exchange that failed left that session, whatever they are
 closed_session : (s : Start) (log closed : List LogEntry) (p : Passed)
-    (client link : LinkState) (start : LinkStart) (session : HttpSession) (raised : Error)
-    → LeavesSession (opened_to s log) p client link start session raised
-    → LeavesSession (closed_to s log closed) p client link start session raised
-closed_session s log closed p client link start session raised l = record {
+    (client : LinkState) (ahead : List ℕ) (link : LinkState) (start : LinkStart)
+    (session : HttpSession) (raised : Error)
+    → LeavesSession (opened_to s log) p client ahead link start session raised
+    → LeavesSession (closed_to s log closed) p client ahead link start session raised
+closed_session s log closed p client ahead link start session raised l = record {
   head = l.head;
   sent = l.sent;
   relayable = l.relayable;
@@ -371,6 +412,9 @@ closed_session s log closed p client link start session raised l = record {
         rose = fails.rose;
         among = fails.among;
       };
+  is_left = l.is_left;
+  quiet = l.quiet;
+  again = l.again;
 }
 
 module _ {L C : Type 0} (state : L → LinkState) (start_at : L → LinkStart) (s : Start)
@@ -383,12 +427,12 @@ module _ {L C : Type 0} (state : L → LinkState) (start_at : L → LinkStart) (
     (Broken context session link lease keep raised))
   where
     -- what is owed behind the exchange
-    owing_in : LeavesSession (opened_to s log) p w.client (state link) (start_at link) session.value
-        raised → keep ≡ false
+    owing_in : LeavesSession (opened_to s log) p w.client w.ahead (state link) (start_at link)
+        session.value raised → keep ≡ false
         → Owing (closed_to s log closed) p w (state link) (start_at link) keep treated left.output
     owing_in before kept =
-        let l = closed_session s log closed p w.client (state link) (start_at link) session.value
-        raised before in
+        let l = closed_session s log closed p w.client w.ahead (state link) (start_at link)
+        session.value raised before in
         record {
           text = owed_text (order_of l.why) (wrote_in closed);
           misses = Misses.in_exchange (record {
@@ -402,8 +446,8 @@ module _ {L C : Type 0} (state : L → LinkState) (start_at : L → LinkStart) (
             told = told;
             why = l.why;
           }) refl kept;
-          queued = queued_by (closed_to s log closed) p w.client (state link) (start_at link)
-              session.value left raised (wrote_in closed) l queues;
+          queued = queued_by (closed_to s log closed) p w.client w.ahead (state link)
+              (start_at link) session.value left raised (wrote_in closed) l queues;
         }
 
     -- and ahead of it
@@ -450,9 +494,9 @@ module _ {L C : Type 0} (state : L → LinkState) (start_at : L → LinkStart) (
         raised → IsInOrder (closed_to s log closed) p
     order_so (IsBroken.in_exchange l kept) =
         part_order (closed_to s log closed) p (state link) (start_at link)
-        (leaves_part (closed_to s log closed) p w.client (state link) (start_at link) session.value
-        raised (closed_session s log closed p w.client (state link) (start_at link) session.value
-        raised l))
+        (leaves_part (closed_to s log closed) p w.client w.ahead (state link) (start_at link)
+        session.value raised (closed_session s log closed p w.client w.ahead (state link)
+        (start_at link) session.value raised l))
     order_so (IsBroken.ahead_of_it l) =
         IsInOrder.is_nothing l.connecting.written l.connecting.unsent.sent
 
@@ -499,6 +543,183 @@ module _ {L C : Type 0} (state : L → LinkState) (start_at : L → LinkStart) (
           ends_missed (closed_to s log closed) p w (state link) (start_at link) keep treated o.text
               o.misses (given_all (closed_to s log closed) p w o.text left.output o.queued none),
         ))
+
+-- ---- another attempt follows
+
+-- a response of which nothing is queued was given all of its text, and no final head is in it
+record GivenAhead (request : Request) (tasks : List HttpTask) (taken : List ℕ) : Type 0 where
+  pub at : has_head (wire request place.NoHead tasks).place ≡ false
+  pub text : taken ≡ (wire request place.NoHead tasks).text
+
+given_ahead : (response : Writing) (request : Request) (tasks : List HttpTask) (taken : List ℕ)
+    → response.request ≡ request → Holds response tasks taken → IsUnqueued response
+    → GivenAhead request tasks taken
+given_ahead response request tasks taken own holds unqueued =
+    let held : HoldsOn response (outgoing.Open []) tasks taken =
+    subst (λ (o : Outgoing). HoldsOn response o tasks taken) unqueued.output holds in
+    let sent : wire request place.NoHead tasks
+    ≡ record { text = taken ++ []; counted = held.counted; place = response.place } =
+    ap (λ (r : Request). wire r place.NoHead tasks) (sym own) ∙ held.wire.is in
+    record {
+      at = ap (λ (k : Sent). has_head k.place) sent
+          ∙ ap (λ (k : Place). has_head k) unqueued.at;
+      text = sym (append-nil taken) ∙ ap (λ (k : Sent). k.text) (sym sent);
+    }
+
+-- where the request goes on a call did not lead out of memory
+goes_leads : {K X : Type 0} (a : At K X) → GoesOn a → leads_at a ≡ led.GoesOn
+goes_leads (at.Kept kept) goes = absurd goes
+goes_leads (at.Opening (stage.Behind last)) goes = refl
+goes_leads (at.Opening (stage.Ended end.Attempts)) goes = refl
+goes_leads (at.Opening (stage.Ended end.Answered)) goes = absurd goes
+goes_leads (at.Opening (stage.Ended end.Purge)) goes = absurd goes
+goes_leads (at.Opening (stage.Ended end.Declined)) goes = absurd goes
+goes_leads (at.Opening (stage.Ended (end.Unwritten why))) goes = absurd goes
+goes_leads (at.Opening (stage.Ended (end.Failed error))) goes = refl
+goes_leads (at.Opening stage.Lost) goes = absurd goes
+goes_leads (at.Named peer) goes = refl
+goes_leads (at.Repeatable error) goes = refl
+goes_leads at.Warning goes = refl
+goes_leads at.Linked goes = refl
+goes_leads (at.Treated error) goes = absurd goes
+goes_leads (at.Closing held there) goes = absurd goes
+
+-- memory was wanted for the call that asks for the warning of an error, and the log is as it was
+pub unasked : {C M K : Type 0} (allows : Standing → LogEntry → Type 0) (c d : Calls M K C)
+    (client left : HttpSession) (mark behind : ℕ) (error : Error)
+    → CallsNext allows (record c { at = at.Repeatable error }) client mark d left behind
+    → (leads_at d.at ≡ led.GoesOn → ⊥) → log_of d ≡ log_of c
+unasked allows c d client left mark behind error (TakesNext.leads before which comes there to turn)
+    stops = absurd (true≢false (sym before))
+unasked allows c d client left mark behind error (TakesNext.tried t) stops =
+    absurd (stops (goes_leads d.at t.goes))
+unasked allows c d client left mark behind error (TakesNext.lost to same) stops = same
+
+module _ {L C M K : Type 0} (state : L → LinkState) (start_at : L → LinkStart)
+    (allows : Standing → LogEntry → Type 0) (c d : Calls M K C) (mark behind : ℕ) (s : Start)
+    (p : Passed) (w : World) (context context' : C) (session left : Box HttpSession)
+    (link : L) (lease : Lease) (keep : Bool) (raised treated : Error)
+    (run : RunSoFar {C = C} state start_at (opened_to s (log_of c)) p w []
+    (Broken context session link lease keep raised))
+    (is_treated : IsTreated (log_of c) raised treated) (begun : is_as_begun session.value ≡ true)
+    (may : MayTry s.most (1 + length (tries_in lease)) treated)
+    (to : Station)
+    (turn : Turns allows hook.SuppressProxyWarnLog station.repeatable to QueuesNothing
+    (seen_with c session.value) mark (seen_with d left.value) behind)
+  where
+    -- the head that the log tells is the session's
+    asked_left : (head : RequestHead)
+        → head_of session.value.reading ≡ Some (head_behind head (log_of c))
+        → head_of left.value.reading ≡ Some (head_behind head (log_of d))
+    asked_left = left_on allows c d session.value left.value mark behind hook.SuppressProxyWarnLog
+        station.repeatable to QueuesNothing turn
+
+    -- nothing was queued
+    asked_quiet : wrote_in (log_of c) ≡ [] → wrote_in (log_of d) ≡ []
+    asked_quiet quiet =
+        wrote_on allows c d session.value left.value mark behind hook.SuppressProxyWarnLog
+        station.repeatable to QueuesNothing turn quiet
+        ∙ turn.queued.wrote_none
+
+    -- and a session begins as before
+    asked_begins : (o : Origin) → BeginsBehind o p.came w.client w.ahead session.value
+        → BeginsBehind o p.came w.client w.ahead left.value
+    asked_begins o begins =
+        begins_on o p.came w.client w.ahead (seen_with c session.value) (seen_with d left.value)
+        turn.calls.reads turn.queued.same begins
+
+    -- why the attempt failed
+    fails_again : IsBroken (opened_to s (log_of c)) p w (state link) (start_at link) session.value
+        lease keep raised
+        → FailsAgain (opened_to s (log_of c)) p w.client (state link) (start_at link) keep treated
+    fails_again (IsBroken.in_exchange l kept) =
+        let given = given_ahead session.value.writing (request_of l.head)
+        (queued_in (order_of l.why)) p.written l.answers l.holds
+        (unqueued_parts session.value.writing (as_begun_parts session.value begun).1) in
+        FailsAgain.in_exchange l.head l.sent raised l.relayable l.sends is_treated l.why given.at
+        given.text kept
+    fails_again (IsBroken.ahead_of_it l) =
+        FailsAgain.ahead_of_it l.connecting.head raised l.connecting.accepted l.why is_treated
+        (subst (λ (b : Bool). IsHandedOut (state link) (start_at link) b) (sym l.fresh.marked)
+        l.fresh) l.connecting.unsent l.connecting.written
+
+    -- the session begins behind that head, where the client's link stands
+    record BeginsNext : Type 0 where
+      head : RequestHead
+      accepted : IsAccepted (opened_to s (log_of d)) p head
+      is_left : head_of left.value.reading ≡ Some (head_behind head (log_of d))
+      quiet : wrote_in (log_of d) ≡ []
+      begins : (sent : RequestHead) (reused : Bool)
+          → BeginsBehind (origin_of (based s w.client) head sent reused) p.came w.client w.ahead
+          left.value
+
+    begins_next : IsBroken (opened_to s (log_of c)) p w (state link) (start_at link) session.value
+        lease keep raised → BeginsNext
+    begins_next (IsBroken.in_exchange l kept) =
+        let o = origin_of (based s w.client) l.head l.sent (start_at link).reused in
+        let again = l.again begun in
+        record {
+          head = l.head;
+          accepted = begins_accepted (opened_to s (log_of d)) p o w.client w.ahead session.value refl
+              l.relayable again;
+          is_left = asked_left l.head l.is_left;
+          quiet = asked_quiet l.quiet;
+          begins = λ sent reused.
+              asked_begins (origin_of (based s w.client) l.head sent reused)
+              (begins_any o p.came w.client w.ahead session.value sent reused again);
+        }
+    begins_next (IsBroken.ahead_of_it l) =
+        let head = l.connecting.head in
+        record {
+          head = head;
+          accepted = called_accepted s (log_of c) (log_of d) p head l.connecting.accepted;
+          is_left = asked_left head l.connecting.is_left;
+          quiet = asked_quiet l.connecting.quiet;
+          begins = λ sent reused.
+              asked_begins (origin_of (based s w.client) head sent reused)
+              (based_begins (origin_of s head sent reused) p.came w.client w.ahead session.value
+              (l.connecting.begins sent reused));
+        }
+
+    -- another attempt follows
+    repeats_on : RepeatsOn {C = C} state start_at (opened_to s (log_of d)) w
+        (Again context' left link lease keep treated)
+    repeats_on =
+        let next = begins_next run.holds.1 in
+        record {
+          context = context';
+          session = left;
+          link = link;
+          lease = lease;
+          keep = keep;
+          error = treated;
+          is = refl;
+          passed = p;
+          before = log_of c;
+          asked = turn.e;
+          called = turn.calls.log;
+          asks = turn.hook;
+          unclosed = refl;
+          tells = called_tells s (log_of c) (log_of d) p w run.tells;
+          untouched = run.untouched;
+          leased = run.holds.0;
+          fails = fails_again run.holds.1;
+          may = may;
+          head = next.head;
+          accepted = next.accepted;
+          is_left = next.is_left;
+          quiet = next.quiet;
+          begins = next.begins;
+        }
+
+    -- so it does by all calls that were made
+    pub repeats_called : IsUnended (log_of c) → RepeatsOn {C = C} state start_at
+        (called_to s (log_of d)) w (Again context' left link lease keep treated)
+    repeats_called none =
+        subst (λ (t : Start). RepeatsOn {C = C} state start_at t w
+        (Again context' left link lease keep treated))
+        (sym (still_open s (log_of d) (unended_more (log_of c) (log_of d) turn.e
+        hook.SuppressProxyWarnLog turn.calls.log turn.hook refl none))) repeats_on
 
 -- memory was wanted for one of both
 pub treated_lost : {L C : Type 0} (state : L → LinkState) (start_at : L → LinkStart)

@@ -18,6 +18,7 @@ pub mod HookSteps
 pub mod PrepareSteps
 pub mod RelaySteps
 pub mod TreatLemmas
+pub mod AgainLemmas
 pub mod BoundLemmas
 pub mod StepLemmas
 pub mod EndSteps

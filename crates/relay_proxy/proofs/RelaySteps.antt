@@ -27,6 +27,7 @@ use Rattle.relay_core.specs.Past.{Origin}
 use Rattle.relay_core.specs.declared.step.Step.{Step}
 use Rattle.relay_core.specs.declared.step.Step.TheVariants as step
 use Rattle.relay_core.specs.Uses as core_uses
+use Rattle.relay_sides.specs.Client.{BeginsBehind}
 use Rattle.relay_exchange.specs.declared.exchange.Turn.{Turn}
 use Rattle.relay_attempt.specs.Exchange as exchange_meets
 use Rattle.relay_attempt.specs.Exchange.{AreTold, ComesTo, FailsWith, IsUnderWay, IsFinished, IsOverEarly, Turns}
@@ -49,6 +50,7 @@ use Rattle.relay_proxy.specs.Relaying.{turned, TurnsOver, TurnsWithin}
 use Rattle.relay_proxy.specs.Reuse.{client_reusable}
 use Rattle.relay_proxy.specs.Turn.{world_with, Advances, HasMoved, HasWaited, MeetsSilence, held_state}
 use Rattle.relay_proxy.specs.Uses.{BothUse, ExchangeMoved, LinkUses, OwesAnswer, PhaseUses, TurnCounts, TurnUses, ups, work_by}
+use Rattle.relay_proxy.proofs.AgainLemmas.{begins_again, rebased_to}
 use Rattle.relay_proxy.proofs.ConnectSteps.{part_relayed}
 use Rattle.relay_proxy.proofs.OpenHead.{exchange_open}
 use Rattle.relay_proxy.proofs.CountLemmas.{both_counts}
@@ -243,9 +245,11 @@ module _ {L C : Type 0} (state : L → LinkState) (start_at : L → LinkStart) w
       → IsUnderWay state start_at (origin_of s run.holds.head run.holds.sent a.value.lease.reused) q
       client ahead x
       → client.faults ≡ s.faults
+      → head_of x.exchange.down.session.reading
+      ≡ head_of a.value.exchange.exchange.down.session.reading
       → RunSoFar {C = C} state start_at s q (world_with client ahead v.connect_faults) []
       (Relay (turned a x))
-  going_on s p q v client ahead a x run told under calm = record {
+  going_on s p q v client ahead a x run told under calm same = record {
     tells = tells_client state start_at s run.holds.head run.holds.sent a.value.lease.reused p q v
         client _ _ ahead run.tells told;
     order = IsInOrder.is_exchange None run.holds.head run.holds.sent a.value.lease.reused _
@@ -263,6 +267,8 @@ module _ {L C : Type 0} (state : L → LinkState) (start_at : L → LinkStart) w
       relayable = run.holds.relayable;
       sends = run.holds.sends;
       under_way = under;
+      is_left = same ∙ run.holds.is_left;
+      quiet = run.holds.quiet;
     };
   }
 
@@ -272,12 +278,14 @@ module _ {L C : Type 0} (state : L → LinkState) (start_at : L → LinkStart) w
       → Turns state start_at (origin_of s run.holds.head run.holds.sent a.value.lease.reused) client
       ahead x step.Moved
       → client.faults ≡ v.client.faults
+      → head_of x.exchange.down.session.reading
+      ≡ head_of a.value.exchange.exchange.down.session.reading
       → Advances {C = C} state start_at s (world_with client ahead v.connect_faults)
       (Relay (turned a x))
-  moves s p v client ahead a x run turns calm = record {
+  moves s p v client ahead a x run turns calm same = record {
     passed = turns.passed;
     run = going_on s p turns.passed v client ahead a x run turns.told turns.comes_to
-        (calm ∙ run.calm);
+        (calm ∙ run.calm) same;
   }
 
   -- a turn that waited
@@ -287,12 +295,14 @@ module _ {L C : Type 0} (state : L → LinkState) (start_at : L → LinkStart) w
       → Turns state start_at (origin_of s run.holds.head run.holds.sent a.value.lease.reused) client
       ahead x (step.Waited pause)
       → client.faults ≡ v.client.faults
+      → head_of x.exchange.down.session.reading
+      ≡ head_of a.value.exchange.exchange.down.session.reading
       → Advances {C = C} state start_at s (world_with client ahead v.connect_faults)
       (Relay (turned a x))
-  waits s p v client ahead a x pause run turns calm = record {
+  waits s p v client ahead a x pause run turns calm same = record {
     passed = turns.passed;
     run = going_on s p turns.passed v client ahead a x run turns.told turns.comes_to
-        (calm ∙ run.calm);
+        (calm ∙ run.calm) same;
   }
 
   -- the exchange is over, and its link is to be handed back
@@ -370,7 +380,7 @@ module _ {L C : Type 0} (state : L → LinkState) (start_at : L → LinkStart) w
     passed : Passed
     tells : TellsClient s passed w
     held : IsLeased s passed (state (link_of x)) (start_at (link_of x)) a.value.lease
-    left : LeavesBy s passed w.client (state (link_of x)) (start_at (link_of x))
+    left : LeavesBy s passed w.client w.ahead (state (link_of x)) (start_at (link_of x))
         x.exchange.down.session why
 
   -- a turn that failed
@@ -379,8 +389,10 @@ module _ {L C : Type 0} (state : L → LinkState) (start_at : L → LinkStart) w
       (run : RunSoFar state start_at s p v [] (Relay a))
       → Turns state start_at (origin_of s run.holds.head run.holds.sent a.value.lease.reused) client
       ahead x (step.Failed why)
+      → head_of x.exchange.down.session.reading
+      ≡ head_of a.value.exchange.exchange.down.session.reading
       → LeavesOff s (world_with client ahead v.connect_faults) a x why
-  fails s p v client ahead a x why run turns = record {
+  fails s p v client ahead a x why run turns same = record {
     passed = turns.passed;
     tells = tells_client state start_at s run.holds.head run.holds.sent a.value.lease.reused p
         turns.passed v client _ _ ahead run.tells turns.told;
@@ -392,7 +404,7 @@ module _ {L C : Type 0} (state : L → LinkState) (start_at : L → LinkStart) w
       by : (f : Fail)
           → ComesTo state start_at (origin_of s run.holds.head run.holds.sent a.value.lease.reused)
           turns.passed client ahead x (step.Failed f)
-          → LeavesBy s turns.passed client (state (link_of x)) (start_at (link_of x))
+          → LeavesBy s turns.passed client ahead (state (link_of x)) (start_at (link_of x))
           x.exchange.down.session f
       by fail.OutOfMemory order =
           part_relayed s turns.passed run.holds.head run.holds.sent a.value.lease.reused _ _
@@ -401,7 +413,7 @@ module _ {L C : Type 0} (state : L → LinkState) (start_at : L → LinkStart) w
           let own = subst
           (λ (reused : Bool). FailsWith state start_at
           (origin_of s run.holds.head run.holds.sent reused)
-          turns.passed client x e) (sym turns.told.reused) fails in
+          turns.passed client ahead x e) (sym turns.told.reused) fails in
           record {
             head = run.holds.head;
             sent = run.holds.sent;
@@ -418,6 +430,15 @@ module _ {L C : Type 0} (state : L → LinkState) (start_at : L → LinkStart) w
                   rose = fails.0;
                   among = fails.1.among;
                 };
+            is_left = same ∙ run.holds.is_left;
+            quiet = run.holds.quiet;
+            again = λ begun. subst
+                (λ (came : List ℕ). BeginsBehind
+                (rebased_to (origin_of s run.holds.head run.holds.sent (start_at (link_of x)).reused)
+                client) came client ahead x.exchange.down.session) own.came
+                (begins_again
+                (origin_of s run.holds.head run.holds.sent (start_at (link_of x)).reused)
+                own.down client ahead x.exchange.down.session own.client begun);
           }
 
 -- ---- a turn of a phase that relays
@@ -446,6 +467,7 @@ off_keeps calls a b (Prepare context session link lease) same head off = absurd 
 off_keeps calls a b (Relay k) same head off = absurd off
 off_keeps calls a b (Broken context session link lease keep error) same head off =
     (refl, off.0 ∙ same, ap (λ (h : HttpSession). head_of h.reading) off.1 ∙ head)
+off_keeps calls a b (stage.Again context session link lease keep error) same head off = absurd off
 off_keeps calls a b (stage.Fail link lease keep session error) same head off = absurd off
 off_keeps calls a b (Close link lease keep outcome) same head off = inl (refl, off)
 off_keeps calls a b (Answer session owed attempts) same head off = absurd off
@@ -531,7 +553,8 @@ module _ {L C : Type 0} (state : L → LinkState) (start_at : L → LinkStart)
         (subst (λ (n : ℕ). Advances {C = C} state start_at s (world_with x.client x.ahead n)
         (Relay (turned within.attempt within.exchange))) (sym same)
         (moves state start_at s p w x.client x.ahead within.attempt within.exchange own
-        (own_turn s p step.Moved own is) (within.turns.calm (ap says_failed is))))
+        (own_turn s p step.Moved own is) (within.turns.calm (ap says_failed is))
+        within.turns.same_head))
 
     -- a turn that waited
     pub waited_within : (pause : Pause) → did.step ≡ step.Waited pause
@@ -543,7 +566,8 @@ module _ {L C : Type 0} (state : L → LinkState) (start_at : L → LinkStart)
         (subst (λ (n : ℕ). Advances {C = C} state start_at s (world_with x.client x.ahead n)
         (Relay (turned within.attempt within.exchange))) (sym same)
         (waits state start_at s p w x.client x.ahead within.attempt within.exchange pause own
-        (own_turn s p (step.Waited pause) own is) (within.turns.calm (ap says_failed is))))
+        (own_turn s p (step.Waited pause) own is) (within.turns.calm (ap says_failed is))
+        within.turns.same_head))
 
     -- a turn that finished the exchange, whose attempt is then to be closed
     pub finished_within : did.step ≡ step.Finished → x.connect_faults ≡ w.connect_faults
@@ -573,7 +597,7 @@ module _ {L C : Type 0} (state : L → LinkState) (start_at : L → LinkStart)
         → TellsClient s p z
         → IsLeased s p (state (link_of a.value.exchange)) (start_at (link_of a.value.exchange))
         a.value.lease
-        → LeavesBy s p z.client (state (link_of a.value.exchange))
+        → LeavesBy s p z.client z.ahead (state (link_of a.value.exchange))
         (start_at (link_of a.value.exchange)) a.value.exchange.exchange.down.session why
         → Advances {C = C} state start_at s z end)
         → (s : Start) (p : Passed) → RunSoFar state start_at s p w [] phase
@@ -582,7 +606,7 @@ module _ {L C : Type 0} (state : L → LinkState) (start_at : L → LinkStart)
         let own = own_run s p run in
         let y = within.exchange in
         let left = fails state start_at s p w x.client x.ahead within.attempt y why own
-        (own_turn s p (step.Failed why) own is) in
+        (own_turn s p (step.Failed why) own is) within.turns.same_head in
         subst (λ (n : ℕ). Advances {C = C} state start_at s (world_with x.client x.ahead n) end)
         (sym same)
         (follows (turned within.attempt y) s left.passed

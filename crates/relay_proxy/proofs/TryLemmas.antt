@@ -204,7 +204,7 @@ ended_within s attempts e made some =
 -- one that hooks ended
 ahead_within : (s : Start) (why : Option Error) (attempts : List AttemptRecord)
     → MadeAhead s why attempts → 1 ≤ s.most → length attempts ≤ s.most
-ahead_within s None attempts made some = none_made s attempts made
+ahead_within s None attempts made some = none_made s attempts made.0
 ahead_within s (Some e) attempts made some = omega (arith, within s attempts made some)
 
 -- one that ended with an error
@@ -218,7 +218,7 @@ failed_within s p w attempts e (AttemptsFailed.ahead ends made) some =
 -- one that was not brought to an end
 unfinished_within : (s : Start) (p : Passed) (w : World) (attempts : List AttemptRecord)
     → AttemptsUnfinished s p w attempts → 1 ≤ s.most → length attempts ≤ s.most
-unfinished_within s p w attempts (inl none) some = none_made s attempts none.0
+unfinished_within s p w attempts (inl none) some = none_made s attempts none.0.0
 unfinished_within s p w attempts (inr (inl between)) some =
     omega (arith, within s attempts between.0 some)
 unfinished_within s p w attempts (inr (inr (inl part))) some =
@@ -237,10 +237,10 @@ pub at_most : {L : Type 0} (state : L → LinkState) (start_at : L → LinkStart
     (p : Passed) (w : World) (own : List (Returned L)) (attempts : List AttemptRecord)
     (outcome : Outcome) → EndsWith state start_at s p w own attempts outcome → 1 ≤ s.most
     → length attempts ≤ s.most
-at_most state start_at s p w [] attempts NoRequest ends some = none_made s attempts ends.1
-at_most state start_at s p w [] attempts (Refused error) ends some = none_made s attempts ends.1
+at_most state start_at s p w [] attempts NoRequest ends some = none_made s attempts ends.1.0
+at_most state start_at s p w [] attempts (Refused error) ends some = none_made s attempts ends.1.0
 at_most state start_at s p w [] attempts (Served None reuse) ends some =
-    none_made s attempts ends.1
+    none_made s attempts ends.1.0
 at_most state start_at s p w [] attempts (Served (Some e) reuse) ends some =
     failed_within s p w attempts e ends.1 some
 at_most state start_at s p w [] attempts TurnLimit ends some =

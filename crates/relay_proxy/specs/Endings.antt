@@ -418,12 +418,13 @@ error_of (Served error reuse) = error
 error_of TurnLimit = None
 error_of OutOfMemory = None
 
--- the record of an attempt at the peer that these calls named, which had a link
+-- the record of an attempt at the peer that these calls named, which had a link: no fault is told
 pub record IsRecordOf (called : List LogEntry) (a : AttemptRecord) (start : LinkStart) (keep : Bool)
     : Type 0 where
   pub peer : IsNamed called a.peer
   pub reused : a.reused ≡ start.reused
   pub kept : a.kept ≡ keep
+  pub unfaulted : a.fault ≡ None
 
 -- the error of that record, by the outcome: its own; where the request was not brought to an end,
 -- that with which the exchange had failed, if it had
@@ -452,10 +453,14 @@ IsPartRefused s p =
     ⊎ ((answer : List ℕ) × (error : Option Error) × IsTurnedDown (asked s p) answer error
     × IsFrontOf p.written answer)
 
+-- a request made no attempt
+abbrev pub MadeNone : Start → List AttemptRecord → Type 0
+MadeNone s attempts = (attempts ≡ []) × (s.tried ≡ [])
+
 -- the attempts of a request that hooks ended: none where they answered it; where they stopped it
--- with an error, those that were given no link before
+-- with an error, those that were made before
 abbrev pub MadeAhead : Start → Option Error → List AttemptRecord → Type 0
-MadeAhead s None attempts = attempts ≡ []
+MadeAhead s None attempts = MadeNone s attempts
 MadeAhead s (Some e) attempts = AreTries s attempts
 
 -- the same of one that was not brought to an end: its client was given a part of what it is owed
@@ -471,7 +476,7 @@ pub record IsPartAhead (s : Start) (p : Passed) (attempts : List AttemptRecord) 
 -- was given no link, and none followed
 abbrev pub AttemptsUnfinished : Start → Passed → World → List AttemptRecord → Type 0
 AttemptsUnfinished s p w attempts =
-    ((attempts ≡ []) × IsPartRefused s p)
+    (MadeNone s attempts × IsPartRefused s p)
     ⊎ ((AreTries s attempts × (p.written ≡ []))
     ⊎ (IsPartAhead s p attempts ⊎ IsHalfRefused s p w attempts))
 
@@ -483,11 +488,12 @@ pub data AttemptsFailed (s : Start) (p : Passed) (w : World) (attempts : List At
   ahead : (ends : EndsAhead s p w (Some e)) → MadeAhead s ends.why attempts
       → AttemptsFailed s p w attempts e
 
--- the attempts of a request that had no link: those that were given none
+-- the attempts of a request whose last part had no link: those up to there, and then those that
+-- were given none
 abbrev pub AttemptsUnlinked : Start → Passed → World → List AttemptRecord → Outcome → Type 0
-AttemptsUnlinked s p w attempts NoRequest = attempts ≡ []
-AttemptsUnlinked s p w attempts (Refused error) = attempts ≡ []
-AttemptsUnlinked s p w attempts (Served None reuse) = attempts ≡ []
+AttemptsUnlinked s p w attempts NoRequest = MadeNone s attempts
+AttemptsUnlinked s p w attempts (Refused error) = MadeNone s attempts
+AttemptsUnlinked s p w attempts (Served None reuse) = MadeNone s attempts
 AttemptsUnlinked s p w attempts (Served (Some e) reuse) = AttemptsFailed s p w attempts e
 AttemptsUnlinked s p w attempts TurnLimit = AttemptsUnfinished s p w attempts
 AttemptsUnlinked s p w attempts OutOfMemory =

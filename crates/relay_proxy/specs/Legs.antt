@@ -85,7 +85,6 @@ module _ {L : Type 0} (state : L → LinkState) (start_at : L → LinkStart) whe
     pub peer : IsNamed leg.start.called leg.back.peer
     pub are_tries : AreTries leg.start leg.tries
     pub is_record : IsRecordOf leg.start.called leg.attempt (start_at leg.back.link) leg.back.keep
-    pub unfaulted : leg.attempt.fault ≡ None
     pub error : leg.attempt.error ≡ Some leg.error
     pub fails : FailsAgain leg.start leg.passed leg.client (state leg.back.link)
         (start_at leg.back.link) leg.back.keep leg.error

@@ -10,7 +10,7 @@ use Rattle.relay_peer.specs.Body.{IsFrontOf}
 use Rattle.relay_attempt.specs.Passed.{Passed}
 use Rattle.relay_proxy.specs.Ahead.{IsOwedAhead}
 use Rattle.relay_proxy.specs.Answer.{WaitsOf}
-use Rattle.relay_proxy.specs.Endings.{IsOwedUnlinked, IsTurnedDown, MadeAhead, Misses, IsRecordOf}
+use Rattle.relay_proxy.specs.Endings.{IsOwedUnlinked, IsTurnedDown, MadeAhead, MadeNone, Misses, IsRecordOf}
 use Rattle.relay_proxy.specs.Passed.{World, Start, asked, TellsLink, IsUnsent}
 use Rattle.relay_proxy.specs.Named.{IsNamed}
 use Rattle.relay_proxy.specs.Sent.{IsUntreated}
@@ -68,7 +68,7 @@ module _ {L : Type 0} (state : L → LinkState) (start_at : L → LinkStart) whe
 
   -- the attempts of a request that owes its client an answer
   abbrev pub HasAttempts : Start → Passed → List (Returned L) → Owed → List AttemptRecord → Type 0
-  HasAttempts s p [] (Refused error) attempts = attempts ≡ []
+  HasAttempts s p [] (Refused error) attempts = MadeNone s attempts
   HasAttempts s p [] (Ahead why) attempts = MadeAhead s why attempts
   HasAttempts s p [] (Served e) attempts = EndsTrying s attempts e
   HasAttempts s p (r ∷ []) (Refused error) attempts = ⊥

@@ -1,5 +1,5 @@
 //! What was done for a request: its attempts, and how much work they took.
-ghost use Rattle.std.specs.Prelude.{◌≡◌, ◌+◌, [], ◌∷◌, ◌++◌, length, slice_get, vec_len, vec_capacity, IsTrue, OnErr, OnOk, IfOk, IfErr, IfSome, IsSome, ◌↔◌, ◌<◌};
+ghost use Rattle.std.specs.Prelude.{◌≡◌, ◌+◌, [], ◌∷◌, ◌++◌, length, slice_get, is_none, vec_len, vec_capacity, IsTrue, OnErr, OnOk, IfOk, IfErr, IfSome, IsSome, ◌↔◌, ◌<◌};
 
 use relay_tasks::{Error, Fault, Peer, PhaseLog};
 use std::alloc::{AllocError, Global};
@@ -16,6 +16,15 @@ pub struct AttemptRecord {
     pub error: Option<Error>,
     /// The fault with which the connector refused the attempt its link, if it did.
     pub(crate) fault: Option<Fault>,
+}
+
+impl AttemptRecord {
+    /// Whether the attempt had a link: the connector did not refuse it one.
+    pub fn has_link(&self) -> bool
+        ensures { result ≡ is_none self.now.fault }
+    {
+        self.fault.is_none()
+    }
 }
 
 /// The attempts of a request, in order.

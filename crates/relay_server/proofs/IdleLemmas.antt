@@ -14,7 +14,7 @@ use Rattle.relay_proxy.specs.Turn.{is_reading_head}
 use Rattle.relay_proxy.specs.declared.calls.At.{At}
 use Rattle.relay_proxy.specs.declared.calls.Calls.{Calls}
 use Rattle.relay_proxy.specs.declared.machine.Phase.{Phase}
-use Rattle.relay_proxy.specs.declared.machine.Phase.TheVariants.{ReadHead, Connect, Unlinked, Prepare, Relay, Broken, Fail, Close, Answer, Ended}
+use Rattle.relay_proxy.specs.declared.machine.Phase.TheVariants.{ReadHead, Connect, Unlinked, Prepare, Relay, Broken, Again, Fail, Close, Answer, Ended}
 use Rattle.relay_server.specs.Idle.{is_idle, HasNotBegun}
 use Rattle.relay_server.specs.Serving.{Visit}
 
@@ -29,6 +29,8 @@ reads_on (Unlinked context session attempts error) here empty idle =
 reads_on (Prepare context session l lease) here empty idle = absurd (true≢false (sym idle))
 reads_on (Relay a) here empty idle = absurd (true≢false (sym idle))
 reads_on (Broken context session l lease keep error) here empty idle =
+    absurd (true≢false (sym idle))
+reads_on (Again context session l lease keep error) here empty idle =
     absurd (true≢false (sym idle))
 reads_on (Close l lease keep outcome) here empty idle = absurd (true≢false (sym idle))
 reads_on (Answer session owed attempts) here empty idle = absurd (true≢false (sym idle))
@@ -53,6 +55,8 @@ none_logged allows mark_of calls (Prepare context session l lease) empty idle so
     absurd (true≢false (sym idle))
 none_logged allows mark_of calls (Relay a) empty idle so_far = absurd (true≢false (sym idle))
 none_logged allows mark_of calls (Broken context session l lease keep error) empty idle so_far =
+    absurd (true≢false (sym idle))
+none_logged allows mark_of calls (Again context session l lease keep error) empty idle so_far =
     absurd (true≢false (sym idle))
 none_logged allows mark_of calls (Fail l lease keep session error) empty idle so_far =
     absurd (true≢false (sym idle))
@@ -97,6 +101,8 @@ not_begun state start_at s p w own (Prepare context session l lease) idle run =
     absurd (true≢false (sym idle))
 not_begun state start_at s p w own (Relay a) idle run = absurd (true≢false (sym idle))
 not_begun state start_at s p w own (Broken context session l lease keep error) idle run =
+    absurd (true≢false (sym idle))
+not_begun state start_at s p w own (Again context session l lease keep error) idle run =
     absurd (true≢false (sym idle))
 not_begun state start_at s p w own (Fail l lease keep session error) idle run =
     absurd (true≢false (sym idle))

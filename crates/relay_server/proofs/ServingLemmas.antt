@@ -1,8 +1,8 @@
 -- Requests under way, and what one turn, one end and one new client make of them.
-use Rattle.std.proofs.Common.{◌≡◌, ◌⊎◌, ℕ, Bool, zero, suc, ◌+◌, ◌≤◌, true, false, true≢false, List, [], ◌∷◌, ◌++◌, length, Option, Some, None, refl, sym, ap, subst, ◌∙◌, inl, inr, arith}
+use Rattle.std.proofs.Common.{◌≡◌, ◌⊎◌, ℕ, Bool, zero, suc, ◌+◌, ◌≤◌, true, false, true≢false, List, [], ◌∷◌, ◌++◌, length, map, Option, Some, None, refl, sym, ap, subst, ◌∙◌, inl, inr, arith}
 use Rattle.std.specs.List.{insert}
 use Rattle.std.specs.List.Sorted.{IsPermutation}
-use Rattle.std.proofs.lemmas.List.{append-nil, append_assoc}
+use Rattle.std.proofs.lemmas.List.{append-nil, append_assoc, map-append}
 use Rattle.std.proofs.lemmas.List.Edits.{insert_end}
 use Rattle.std.proofs.lemmas.List.Sorted.{IsPermutation-refl, IsPermutation-sym, IsPermutation-trans, IsPermutation-append_comm, IsPermutation-append_left, IsPermutation-append_right}
 use Rattle.relay_tasks.specs.declared.Error.{Error}
@@ -15,10 +15,12 @@ use Rattle.relay_links.specs.declared.Returned.{Returned}
 use Rattle.relay_modules.specs.Module.{ModuleCall}
 use Rattle.relay_hooks.specs.Standing.{Standing}
 use Rattle.relay_attempt.specs.Passed.{Passed}
+use Rattle.relay_peer.specs.Body.{IsFrontOf}
 use Rattle.relay_session.specs.declared.session.HttpSession.{HttpSession}
 use Rattle.relay_session.specs.declared.writing.Outgoing.{Outgoing}
 use Rattle.relay_proxy.specs.Calls.{CallsSoFar, allowed_by, log_of}
 use Rattle.relay_proxy.specs.Endings.{AttemptsFailed, AttemptsUnlinked, EndsAhead, EndsLinked, EndsReturned, EndsUnlinked, EndsWith, FailsToConnect, IsFailedAttempt, IsGivenAhead, IsOwedUnlinked, IsRelayedEarly, IsRelayedWhole, IsUnconnected, IsUnsentAttempt}
+use Rattle.relay_proxy.specs.Legs.{AreLegs, BeginsAt, Leg, behind}
 use Rattle.relay_proxy.specs.Owed.{Owes, IsAnswering}
 use Rattle.relay_proxy.specs.Passed.{World, Start, called_to}
 use Rattle.relay_proxy.specs.Phases.{RunSoFar, IsBroken, IsCalm, IsConnecting, LacksLink, PhaseHolds, IsAt}
@@ -28,7 +30,7 @@ use Rattle.relay_proxy.specs.Turn.{world_with, world_of, is_over, links_held}
 use Rattle.relay_proxy.specs.declared.calls.At.{At}
 use Rattle.relay_proxy.specs.declared.machine.Lease.{Lease}
 use Rattle.relay_proxy.specs.declared.machine.Phase.{Phase}
-use Rattle.relay_proxy.specs.declared.machine.Phase.TheVariants.{ReadHead, Connect, Unlinked, Prepare, Relay, Broken, Fail, Close, Answer, Ended}
+use Rattle.relay_proxy.specs.declared.machine.Phase.TheVariants.{ReadHead, Connect, Unlinked, Prepare, Relay, Broken, Again, Fail, Close, Answer, Ended}
 use Rattle.relay_proxy.specs.declared.outcome.Outcome.{Outcome}
 use Rattle.relay_proxy.specs.declared.work.Work.{Work}
 use Rattle.relay_proxy.specs.declared.outcome.Outcome.TheVariants.{NoRequest, Refused, Served, TurnLimit, OutOfMemory}
@@ -38,8 +40,9 @@ use Rattle.relay_proxy.specs.declared.owed.Owed.TheVariants as due
 use Rattle.relay_proxy.specs.declared.proxy.HttpProxy.{HttpProxy}
 use Rattle.relay_proxy.specs.declared.record.AttemptRecord.{AttemptRecord}
 use Rattle.relay_proxy.proofs.EndSteps.{gives_by}
+use Rattle.relay_proxy.proofs.LegLemmas.{behind_called, behind_more, behind_most, legs_later, legs_more}
 use Rattle.relay_proxy.proofs.LastCalls.{calls_logged}
-use Rattle.relay_server.specs.Serving.{Books, books, CountRises, Visit, HaveEnded, EndedRequest, all_held, AreUnderWay, Serves, EndsOne, ServesOn}
+use Rattle.relay_server.specs.Serving.{Books, books, CountRises, Visit, HaveEnded, EndedRequest, all_held, AreUnderWay, IsUnderWay, Serves, EndsOne, ServesOn}
 use Rattle.relay_server.specs.Serving.AreEnded.{none, one_more}
 
 -- a request that has not ended has no hook of its end to call
@@ -339,12 +342,16 @@ module _ {L C : Type 0} (state : L → LinkState) (start_at : L → LinkStart) w
     relayable = at.relayable;
     sends = at.sends;
     under_way = at.under_way;
+    is_left = at.is_left;
+    quiet = at.quiet;
   }
   at_later s p link ahead f g (Broken context session l lease keep error) here going more_faults
       at = (
         at.0,
         broken_later s p link ahead f g (state l) (start_at l) session.value lease keep error at.1,
       )
+  at_later s p link ahead f g (Again context session l lease keep error) here going more_faults
+      at = absurd at
   at_later s p link ahead f g (Fail l lease keep session error) here going more_faults at = (
     at.0,
     record { text = at.1.text; misses = at.1.misses; waits = at.1.waits },
@@ -375,6 +382,7 @@ module _ {L C : Type 0} (state : L → LinkState) (start_at : L → LinkStart) w
   calm_later s link ahead f g (Prepare context session l lease) calm = calm
   calm_later s link ahead f g (Relay a) calm = calm
   calm_later s link ahead f g (Broken context session l lease keep error) calm = calm
+  calm_later s link ahead f g (Again context session l lease keep error) calm = calm
   calm_later s link ahead f g (Fail l lease keep session error) calm = calm
   calm_later s link ahead f g (Close l lease keep outcome) calm = calm
   calm_later s link ahead f g (Answer session owed attempts) calm = calm
@@ -397,6 +405,8 @@ module _ {L C : Type 0} (state : L → LinkState) (start_at : L → LinkStart) w
       holds = absurd holds
   holds_later s p link ahead f g (r ∷ own) (Relay a) here going more_faults holds = absurd holds
   holds_later s p link ahead f g (r ∷ own) (Broken context session l lease keep error) here going
+      more_faults holds = absurd holds
+  holds_later s p link ahead f g (r ∷ own) (Again context session l lease keep error) here going
       more_faults holds = absurd holds
   holds_later s p link ahead f g (r ∷ own) (Fail l lease keep session error) here going more_faults
       holds = absurd holds
@@ -542,11 +552,16 @@ module _ {L C D U M : Type 0}
       start = under_way.of_one.start;
       limit = under_way.of_one.limit;
       calls = under_way.of_one.calls;
+      legs = under_way.of_one.legs;
+      are_legs = under_way.of_one.are_legs;
       passed = under_way.of_one.passed;
+      last = under_way.of_one.last;
+      own_are = under_way.of_one.own_are;
       run = run_later state start_at
-          (called_to under_way.of_one.start (log_of visit.calls)) under_way.of_one.passed
-          (client_state visit.client.link) visit.client.ahead f g under_way.own visit.phase
-          visit.calls.at under_way.of_one.going more_faults under_way.of_one.run;
+          (called_to (behind under_way.of_one.start under_way.of_one.legs) (log_of visit.calls))
+          under_way.of_one.passed (client_state visit.client.link) visit.client.ahead f g
+          under_way.of_one.last visit.phase visit.calls.at under_way.of_one.going more_faults
+          under_way.of_one.run;
       going = under_way.of_one.going;
     };
     of_others = all_later most f g more_faults rest under_way.rest under_way.of_others;
@@ -632,6 +647,7 @@ module _ {L C D U M : Type 0}
     pub most : now.most ≡ old.most
     pub calls : CallsSoFar allows mark_of visit.calls visit.phase
         → CallsSoFar allows mark_of next.calls next.phase
+    pub front : IsFrontOf (log_of visit.calls) (log_of next.calls)
     pub steps : (s : Start) (p : Passed) (own : List (Returned L)) → s.most ≡ old.most
         → CallsSoFar allows mark_of visit.calls visit.phase
         → RunSoFar state start_at (called_to s (log_of visit.calls)) p
@@ -640,6 +656,80 @@ module _ {L C D U M : Type 0}
         (called_to s (log_of next.calls)) p (world_of client_state next.client now.faults) own
         old.returned now.returned t u h k (client_state visit.client.link) visit.client.ahead i j
         visit.phase next.phase
+
+  -- what a turn made of the run of a request: the attempts that were tried again before, or one
+  -- more; what passed in the last one, and the links that were handed back in it, or in the turn
+  pub record GoesFurther (old now : Books L) (visit next : Visit D U L C M) (s : Start)
+      (own : List (Returned L)) : Type 0 where
+    pub legs : List (Leg L)
+    pub are_legs : AreLegs state start_at (called_to s (log_of next.calls)) legs
+    pub passed : Passed
+    pub last : List (Returned L)
+    pub handed : List (Returned L)
+    pub gained : now.returned ≡ more old.returned handed
+    pub own_are : own ++ handed ≡ map (λ leg. leg.back) legs ++ last
+    pub run : RunSoFar state start_at (called_to (behind s legs) (log_of next.calls)) passed
+        (world_of client_state next.client now.faults) last next.phase
+
+  -- the turn of a request that is under way
+  turn_on : (old now : Books L) (visit next : Visit D U L C M)
+      (t u : Option (List Fault)) (h k : Option (List Offer)) (i j : Work)
+      → TakesTurn old now visit next t u h k i j → (own : List (Returned L))
+      → (under : IsUnderWay state start_at client_state allows mark_of old.most old.faults visit
+      own)
+      → GoesFurther old now visit next under.start own
+  turn_on old now visit next t u h k i j turn own under =
+      by (turn.steps base under.passed under.last (behind_most s under.legs ∙ under.limit)
+      under.calls under.run)
+    where
+      s : Start
+      s = under.start
+
+      base : Start
+      base = behind s under.legs
+
+      -- the attempts before were tried again still
+      later : AreLegs state start_at (called_to s (log_of next.calls)) under.legs
+      later = legs_later state start_at s (log_of visit.calls) (log_of next.calls) under.legs
+          turn.front under.are_legs
+
+      by : StepsOn state start_at (called_to base (log_of visit.calls))
+          (called_to base (log_of next.calls)) under.passed
+          (world_of client_state next.client now.faults) under.last old.returned now.returned t u h
+          k (client_state visit.client.link) visit.client.ahead i j visit.phase next.phase
+          → GoesFurther old now visit next s own
+      by (StepsOn.goes taken) = record {
+        legs = under.legs;
+        are_legs = later;
+        passed = taken.passed;
+        last = under.last ++ taken.handed;
+        handed = taken.handed;
+        gained = taken.gained;
+        own_are = ap (λ (l : List (Returned L)). l ++ taken.handed) under.own_are
+            ∙ append_assoc (map (λ (leg : Leg L). leg.back) under.legs) under.last taken.handed;
+        run = taken.run;
+      }
+      by (StepsOn.again taken) = record {
+        legs = under.legs ++ taken.leg ∷ [];
+        are_legs = legs_more state start_at (called_to s (log_of next.calls)) under.legs taken.leg
+            later taken.is_leg
+            (subst (λ (b : Start). BeginsAt b taken.leg)
+            (sym (behind_called s (log_of next.calls) under.legs)) taken.begins);
+        passed = taken.passed;
+        last = [];
+        handed = taken.leg.back ∷ [];
+        gained = taken.gained;
+        own_are = ap (λ (l : List (Returned L)). l ++ taken.leg.back ∷ [])
+            (under.own_are
+            ∙ ap (λ (l : List (Returned L)). map (λ (leg : Leg L). leg.back) under.legs ++ l)
+            taken.none
+            ∙ append-nil (map (λ (leg : Leg L). leg.back) under.legs))
+            ∙ sym (map-append (λ (leg : Leg L). leg.back) under.legs (taken.leg ∷ []))
+            ∙ sym (append-nil (map (λ (leg : Leg L). leg.back) (under.legs ++ taken.leg ∷ [])));
+        run = subst (λ (b : Start). RunSoFar state start_at (called_to b (log_of next.calls))
+            taken.passed (world_of client_state next.client now.faults) [] next.phase)
+            (sym (behind_more s under.legs taken.leg)) taken.run;
+      }
 
   -- a turn behind which the request goes on
   pub goes_on : (before old now : Books L) (visit next : Visit D U L C M)
@@ -652,7 +742,7 @@ module _ {L C D U M : Type 0}
   goes_on before old now visit next rest t u h k i j serves turn going =
       let all = serves.under_way in
       let under = all.of_one in
-      let taken = turn.steps under.start under.passed all.own under.limit under.calls under.run in
+      let taken = turn_on old now visit next t u h k i j turn all.own under in
       record {
         links = serves.links ++ taken.handed;
         ended = subst (λ (n : ℕ). HaveEnded state start_at allows before n now.returned
@@ -666,7 +756,11 @@ module _ {L C D U M : Type 0}
             start = under.start;
             limit = under.limit ∙ sym turn.most;
             calls = turn.calls under.calls;
+            legs = taken.legs;
+            are_legs = taken.are_legs;
             passed = taken.passed;
+            last = taken.last;
+            own_are = taken.own_are;
             run = taken.run;
             going = going;
           };
@@ -687,7 +781,7 @@ module _ {L C D U M : Type 0}
   ends_now before old now visit next rest t u h k i j serves turn over =
       let all = serves.under_way in
       let under = all.of_one in
-      let taken = turn.steps under.start under.passed all.own under.limit under.calls under.run in
+      let taken = turn_on old now visit next t u h k i j turn all.own under in
       record {
         own = all.own ++ taken.handed;
         links = all.rest;
@@ -702,7 +796,11 @@ module _ {L C D U M : Type 0}
             serves.links taken.handed serves.ended taken.gained));
         start = under.start;
         calls = turn.calls under.calls;
+        legs = taken.legs;
+        are_legs = taken.are_legs;
         passed = taken.passed;
+        last = taken.last;
+        own_are = taken.own_are;
         run = taken.run;
         limit = under.limit ∙ serves.same_most;
         over = over;
@@ -712,14 +810,18 @@ module _ {L C D U M : Type 0}
 
   -- one more request came to its end
   pub comes_to_end : (before old now : Books L) (visit : Visit D U L C M)
-      (own links : List (Returned L)) (s : Start) (p : Passed) (x : World) (processed : Processed)
+      (own links : List (Returned L)) (s : Start) (legs : List (Leg L)) (last : List (Returned L))
+      (p : Passed) (x : World) (processed : Processed)
       → s.most ≡ before.most → CallsSoFar allows mark_of visit.calls visit.phase
+      → AreLegs state start_at (called_to s (log_of visit.calls)) legs
+      → own ≡ map (λ leg. leg.back) legs ++ last
       → HaveEnded state start_at allows before old.requests_ended old.returned (own ++ links)
-      → ComesToEnd state start_at (called_to s (log_of visit.calls)) p x own old.returned
-      now.returned visit.phase visit.calls.at processed
+      → ComesToEnd state start_at (called_to (behind s legs) (log_of visit.calls)) p x last
+      old.returned now.returned visit.phase visit.calls.at processed
       → now.requests_ended ≡ ended_after old.requests_ended processed.outcome
       → HaveEnded state start_at allows before now.requests_ended now.returned links
-  comes_to_end before old now visit own links s p x processed limit calls ended comes counted =
+  comes_to_end before old now visit own links s legs last p x processed limit calls are_legs own_are
+      ended comes counted =
       let all = own ++ comes.handed in
       let logged = calls_logged allows mark_of visit.calls visit.phase calls in
       subst (λ (n : ℕ). HaveEnded state start_at allows before n now.returned links) (sym counted)
@@ -731,8 +833,13 @@ module _ {L C D U M : Type 0}
         log = log_of visit.calls;
         station = logged.0;
         logged = logged.1;
+        legs = legs;
+        are_legs = are_legs;
         passed = p;
         world = x;
+        last = last ++ comes.handed;
+        own_are = ap (λ (l : List (Returned L)). l ++ comes.handed) own_are
+            ∙ append_assoc (map (λ (leg : Leg L). leg.back) legs) last comes.handed;
         attempts = processed.history.attempts;
         came = comes.came;
         ended = comes.ended;
@@ -794,9 +901,10 @@ module _ {L C D U M : Type 0}
       → Serves state start_at client_state allows mark_of before now rest
   ends_one before old now visit rest x processed one comes counted same limit = record {
     links = one.links;
-    ended = comes_to_end before old now visit one.own one.links one.start one.passed x processed
-        one.limit one.calls one.ended
-        (comes (called_to one.start (log_of visit.calls)) one.passed one.own one.run) counted;
+    ended = comes_to_end before old now visit one.own one.links one.start one.legs one.last
+        one.passed x processed one.limit one.calls one.are_legs one.own_are one.ended
+        (comes (called_to (behind one.start one.legs) (log_of visit.calls)) one.passed one.last
+        one.run) counted;
     under_way = others_same old now rest one.links limit same one.under_way;
     same_most = limit ∙ one.same_most;
   }
@@ -818,13 +926,15 @@ module _ {L C D U M : Type 0}
       let under = all.of_one in
       record {
         links = all.rest;
-        ended = comes_to_end before old now visit all.own all.rest under.start under.passed x
-            processed (under.limit ∙ serves.same_most) under.calls
+        ended = comes_to_end before old now visit all.own all.rest under.start under.legs
+            under.last under.passed x processed (under.limit ∙ serves.same_most) under.calls
+            under.are_legs under.own_are
             (ended_in_order state start_at allows before old.requests_ended old.returned
             serves.links
             (all.own ++ all.rest)
             (IsPermutation-sym (all.own ++ all.rest) serves.links all.joined) serves.ended)
-            (comes (called_to under.start (log_of visit.calls)) under.passed all.own under.run)
+            (comes (called_to (behind under.start under.legs) (log_of visit.calls)) under.passed
+            under.last under.run)
             counted;
         under_way = others_same old now rest all.rest limit same all.of_others;
         same_most = limit ∙ serves.same_most;
@@ -849,7 +959,11 @@ module _ {L C D U M : Type 0}
         start = s;
         limit = limit;
         calls = calls;
+        legs = [];
+        are_legs = tt;
         passed = p;
+        last = [];
+        own_are = refl;
         run = subst (λ (t : Start). RunSoFar state start_at t p
             (world_of client_state visit.client now.faults) [] visit.phase) (sym called) run;
         going = goes_undone visit.phase visit.calls.at going;

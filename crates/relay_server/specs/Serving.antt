@@ -1,5 +1,5 @@
 -- Many requests over one proxy: those under way, and those that came to an end.
-use Rattle.std.specs.Prelude.{◌≡◌, ℕ, ◌+◌, ◌≤◌, Bool, true, false, List, [], ◌∷◌, ◌++◌, Option}
+use Rattle.std.specs.Prelude.{◌≡◌, ℕ, ◌+◌, ◌≤◌, Bool, true, false, List, [], ◌∷◌, ◌++◌, map, Option}
 use Rattle.std.specs.List.Sorted.{IsPermutation}
 use Rattle.relay_tasks.specs.declared.log.LogEntry.{LogEntry}
 use Rattle.relay_h1.specs.declared.Connection.{Connection}
@@ -13,6 +13,7 @@ use Rattle.relay_phases.specs.Order.{Station}
 use Rattle.relay_attempt.specs.Passed.{Passed}
 use Rattle.relay_proxy.specs.Calls.{CallsSoFar, IsLogged, allowed_by, kept_at, log_of}
 use Rattle.relay_proxy.specs.Endings.{IsEnded}
+use Rattle.relay_proxy.specs.Legs.{AreLegs, Leg, behind}
 use Rattle.relay_proxy.specs.Passed.{World, Start, called_to}
 use Rattle.relay_proxy.specs.Phases.{RunSoFar}
 use Rattle.relay_proxy.specs.ClosingHooks.{Gives}

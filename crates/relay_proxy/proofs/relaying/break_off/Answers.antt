@@ -13,5 +13,5 @@ pub returns-in-Err-clause-run : goal.returns-in-Err-clause-run
 returns-in-Err-clause-run g c = λ s p w tells leased left.
     rw c.closed.ensures.phase
     (left_memory g.L.ByteLink.state g.L.ByteLink.start s p w c.args.link c.args.lease tells leased
-    (leaves_part s p w.client (g.L.ByteLink.state c.args.link) (g.L.ByteLink.start c.args.link)
-    c.args.session c.args.error left))
+    (leaves_part s p w.client w.ahead (g.L.ByteLink.state c.args.link)
+    (g.L.ByteLink.start c.args.link) c.args.session c.args.error left))

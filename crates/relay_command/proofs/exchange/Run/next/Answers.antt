@@ -1,19 +1,35 @@
 -- The next request is the one that the proxy ran over the links as they stood.
-use Rattle.std.proofs.Common.{◌≡◌, ◌≢◌, ◌∙◌, sym, ap, drop, length, refl, true≢false}
+use Rattle.std.proofs.Common.{◌≡◌, ◌≢◌, ◌∙◌, List, sym, subst, ap, drop, length, refl, true≢false}
 use Rattle.std.specs.List.{slice_range}
 use Rattle.std.proofs.lemmas.Option.{same_Some}
 use Rattle.std.proofs.lemmas.Result.{IfOk-weaker}
 use Rattle.relay_links.specs.ScriptEntries.{links_returned}
+use Rattle.relay_links.specs.declared.connector.Returned.{Returned}
 use Rattle.relay_links.specs.declared.script_connector.ScriptConnector.{ScriptConnector}
+use Rattle.relay_links.specs.declared.script_link.ScriptLink.{ScriptLink}
 use Rattle.relay_links.specs.declared.memory_purger.MemoryPurger.{MemoryPurger}
 use Rattle.relay_proxy.specs.declared.outcome.Outcome.TheVariants.{OutOfMemory}
 use Rattle.relay_proxy.specs.declared.proxy.HttpProxy.{HttpProxy}
 use Rattle.relay_scripted.specs.declared.proxy.ScriptProxy.{ScriptProxy}
-use Rattle.relay_command.specs.Exchange.{reported, taken_of}
+use Rattle.relay_command.specs.Exchange.{reported, taken_of, StartWithin}
 use Rattle.relay_command.specs.Report.{request_spec}
 use Rattle.relay_command.specs.declared.report.RequestReport.{RequestReport}
-use Rattle.relay_command.proofs.ExchangeLemmas.{range_end, run_next}
+use Rattle.relay_command.proofs.ExchangeLemmas.{back_start, range_end, run_next}
 use Rattle.relay_command.proofs.exchange.Run.next.Goals as goal
+
+pub request_report-requires : goal.request_report-requires
+request_report-requires c =
+    let before = c.returned-back.result.now in
+    let behind = c.returned.result.now in
+    let had : before ≡ links_returned c.args.self.now.proxy.connector =
+    c.returned-back.ensures ∙ ap links_returned c.connector.ensures in
+    let has : behind ≡ links_returned c.process_new_http-processed.new.self.connector =
+    c.returned.ensures ∙ ap links_returned c.connector-2.ensures in
+    subst (λ (rs : List (Returned ScriptLink)). StartWithin rs)
+    (sym (range_end behind (length before) ∙ rw (had, has) refl))
+    (back_start _ _ (links_returned c.args.self.now.proxy.connector)
+    (links_returned c.process_new_http-processed.new.self.connector) _ _ _ _ _ _ _
+    c.process_new_http-processed.ensures.processes)
 
 pub returns : goal.returns
 returns c = λ script peers many at.

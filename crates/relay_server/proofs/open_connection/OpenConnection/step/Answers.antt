@@ -27,6 +27,7 @@ returns-clause-goes g c = λ before rest goes serves.
       most = ap (λ (p : HttpProxy g.row.SV.Denot g.row.K.Denot g.row.P.Denot).
           p.conf.max_retries) c.step-step.ensures.same;
       calls = c.step-step.ensures.calls;
+      front = c.step-step.ensures.front;
       steps = c.step-step.ensures.steps;
     })
     (c.step-step.ensures.ended ∙ goes))
@@ -52,6 +53,7 @@ returns-clause-ends g c = λ before rest ends serves.
       most = ap (λ (p : HttpProxy g.row.SV.Denot g.row.K.Denot g.row.P.Denot).
           p.conf.max_retries) c.step-step.ensures.same;
       calls = c.step-step.ensures.calls;
+      front = c.step-step.ensures.front;
       steps = c.step-step.ensures.steps;
     })
     (c.step-step.ensures.ended ∙ ends))

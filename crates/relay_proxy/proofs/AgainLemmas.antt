@@ -1,0 +1,344 @@
+-- A session that stands as it did behind its head, so that another attempt may begin with it.
+--
+--   uncounted               tasks behind which no final head was queued count no byte of a body
+--   unqueued_parts          what a response has of which nothing was queued
+--   begins_again            a session that stands as it did begins anew where the client's link stands
+--   based_begins            so does one of which nothing was queued or written
+--   begins_any              it begins for each head that may be sent
+--   begins_accepted         its head was accepted
+--   as_begun_before         a session that a hook left as begun was so before
+use Rattle.std.proofs.Common.{◌≡◌, ℕ, ◌+◌, Bool, true, false, not, ◌&&◌, ◌||◌, List, [], ◌∷◌, ◌++◌, length, Option, Some, None, refl, sym, ap, subst, ◌∙◌, inl, inr, true≢false, arith, le_refl}
+use Rattle.std.proofs.lemmas.Bool.{eqb-true}
+use Rattle.std.proofs.lemmas.List.{nil_from_length}
+use Rattle.std.specs.Prelude.{◌==◌, ◌⊎◌, if◌then◌else◌, min}
+use Rattle.relay_tasks.specs.Head.{RequestHead, ResponseHead}
+use Rattle.relay_tasks.specs.declared.task.HttpTask.{HttpTask}
+use Rattle.relay_tasks.specs.declared.task.HttpTask.TheVariants as task
+use Rattle.relay_links.specs.Count.{last_count}
+use Rattle.relay_links.specs.Link.{LinkState}
+use Rattle.relay_links.specs.Told.{told_length}
+use Rattle.relay_links.proofs.SinceLemmas.{Since-start}
+use Rattle.relay_h1.specs.BodyReader.{is_done}
+use Rattle.relay_h1.specs.ClientHead.{is_informational}
+use Rattle.relay_h1.specs.Verdict.{HasRequest}
+use Rattle.relay_h1.specs.declared.framing.Framing.{Framing}
+use Rattle.relay_h1.proofs.VerdictLemmas.{HasRequest-unique}
+use Rattle.relay_session.specs.Front.{ends_with_head}
+use Rattle.relay_session.specs.Reading.{IsWhole, RequestSoFar, is_body_done, is_unread, with_head}
+use Rattle.relay_session.specs.Response.{Holds, HoldsOn, IsText, has_head, is_unqueued, is_written_out}
+use Rattle.relay_session.specs.Session.{is_as_begun}
+use Rattle.relay_session.specs.TaskSteps.{IsWire}
+use Rattle.relay_session.specs.TaskWire.{Sent, ends_with, framing_of, framed_head_sent, head_sent, informed, joined, only_end, only_piece, piece_sent, shown, task_sent, wire}
+use Rattle.relay_h1.specs.BodyWire.{after_piece}
+use Rattle.relay_session.specs.declared.reading.Reading.{Reading}
+use Rattle.relay_session.specs.declared.reading.Reading.TheVariants as reading
+use Rattle.relay_session.specs.declared.session.HttpSession.{HttpSession}
+use Rattle.relay_session.specs.declared.task_text.Place.{Place}
+use Rattle.relay_session.specs.declared.task_text.Place.TheVariants as place
+use Rattle.relay_session.specs.declared.task_text.Request.{Request}
+use Rattle.relay_session.specs.declared.writing.Outgoing.{Outgoing}
+use Rattle.relay_session.specs.declared.writing.Outgoing.TheVariants as outgoing
+use Rattle.relay_session.specs.declared.writing.Writing.{Writing}
+use Rattle.relay_core.specs.Past.{DownPast, Origin}
+use Rattle.relay_sides.specs.Client.{BeginsBehind, IsClient, queued}
+use Rattle.relay_modules.specs.declared.seen.Seen.{Seen}
+use Rattle.relay_hooks.specs.Session.{request_head}
+use Rattle.relay_phases.specs.Turns.{ReadsNothing}
+use Rattle.relay_attempt.specs.Passed.{Passed}
+use Rattle.relay_proxy.specs.Passed.{Start}
+use Rattle.relay_proxy.specs.Relayable.{IsAccepted, IsRelayable}
+
+-- ---- what was queued before the final head
+
+-- a piece of a body leaves the response behind its final head
+piece_has : (rest : Framing) (piece : List ℕ) (ends : Bool)
+    → has_head (piece_sent rest piece ends).place ≡ true
+piece_has rest piece ends = on (ends_with rest piece ends)
+  where
+    on : (b : Bool)
+        → has_head (if b then joined (only_piece rest piece) (only_end (after_piece rest piece))
+        else only_piece rest piece).place ≡ true
+    on true = refl
+    on false = refl
+
+-- so does each task behind it
+keeps_head : (request : Request) (at : Place) (one : HttpTask) → has_head at ≡ true
+    → has_head (task_sent request at one).place ≡ true
+keeps_head request place.NoHead one has = absurd (true≢false (sym has))
+keeps_head request (place.Body rest) (task.Header head ends) has = piece_has rest [] ends
+keeps_head request (place.Body rest) (task.Body piece ends) has = piece_has rest _ ends
+keeps_head request (place.Body rest) (task.UpgradedBody piece ends) has = piece_has rest _ ends
+keeps_head request (place.Body rest) (task.Trailer fields) has = piece_has rest [] true
+keeps_head request (place.Body rest) task.Done has = piece_has rest [] true
+keeps_head request (place.Body rest) (task.Failed error) has = refl
+keeps_head request place.Done (task.Header head ends) has = refl
+keeps_head request place.Done (task.Body piece ends) has = refl
+keeps_head request place.Done (task.UpgradedBody piece ends) has = refl
+keeps_head request place.Done (task.Trailer fields) has = refl
+keeps_head request place.Done task.Done has = refl
+keeps_head request place.Done (task.Failed error) has = refl
+
+-- and all of them
+keep_head : (request : Request) (at : Place) (tasks : List HttpTask) → has_head at ≡ true
+    → has_head (wire request at tasks).place ≡ true
+keep_head request at [] has = has
+keep_head request at (one ∷ tasks) has =
+    keep_head request (task_sent request at one).place tasks (keeps_head request at one has)
+
+-- what is sent leaves no final head, and counts no byte of a body
+abbrev IsAhead : Sent → Type 0
+IsAhead sent = (sent.place ≡ place.NoHead) × (sent.counted ≡ 0)
+
+-- a task before the final head leaves none and counts nothing, or it is one
+task_ahead : (request : Request) (one : HttpTask)
+    → IsAhead (task_sent request place.NoHead one)
+    ⊎ (has_head (task_sent request place.NoHead one).place ≡ true)
+task_ahead request (task.Header head ends) =
+    by_status (is_informational head.status)
+  where
+    by_framing : (framed : Option Framing)
+        → IsAhead (framed_head_sent (shown request head) ends framed)
+        ⊎ (has_head (framed_head_sent (shown request head) ends framed).place ≡ true)
+    by_framing None = inl (refl, refl)
+    by_framing (Some framing) = inr (piece_has framing [] ends)
+
+    by_status : (b : Bool)
+        → IsAhead (if b then informed request head
+        else framed_head_sent (shown request head) ends (framing_of request head))
+        ⊎ (has_head (if b then informed request head
+        else framed_head_sent (shown request head) ends (framing_of request head)).place ≡ true)
+    by_status true = inl (refl, refl)
+    by_status false = by_framing (framing_of request head)
+task_ahead request (task.Body piece ends) = inl (refl, refl)
+task_ahead request (task.UpgradedBody piece ends) = inl (refl, refl)
+task_ahead request (task.Trailer fields) = inl (refl, refl)
+task_ahead request task.Done = inl (refl, refl)
+task_ahead request (task.Failed error) = inl (refl, refl)
+
+-- tasks behind which no final head was queued count no byte of a body
+pub uncounted : (request : Request) (tasks : List HttpTask)
+    → has_head (wire request place.NoHead tasks).place ≡ false
+    → (wire request place.NoHead tasks).counted ≡ 0
+uncounted request [] none = refl
+uncounted request (one ∷ tasks) none =
+    on (task_sent request place.NoHead one) (task_ahead request one) (uncounted request tasks) none
+  where
+    on : (sent : Sent) → IsAhead sent ⊎ (has_head sent.place ≡ true)
+        → (has_head (wire request place.NoHead tasks).place ≡ false
+        → (wire request place.NoHead tasks).counted ≡ 0)
+        → has_head (wire request sent.place tasks).place ≡ false
+        → sent.counted + (wire request sent.place tasks).counted ≡ 0
+    on sent (inl (at, zero)) behind none =
+        let rest : has_head (wire request place.NoHead tasks).place ≡ false =
+        subst (λ (k : Place). has_head (wire request k tasks).place ≡ false) at none in
+        omega (arith, zero, ap (λ (k : Place). (wire request k tasks).counted) at, behind rest)
+    on sent (inr has) behind none =
+        absurd (true≢false (sym (keep_head request sent.place tasks has) ∙ none))
+
+-- ---- a response of which nothing is queued
+
+-- no final head was queued, and nothing waits
+pub record IsUnqueued (response : Writing) : Type 0 where
+  pub at : response.place ≡ place.NoHead
+  pub output : response.output ≡ outgoing.Open []
+
+-- so its tests say
+pub unqueued_parts : (response : Writing) → is_unqueued response ≡ true → IsUnqueued response
+unqueued_parts response all =
+    let both = on response.place response.output all in
+    record { at = both.0; output = both.1 }
+  where
+    on : (at : Place) (output : Outgoing) → (not (has_head at) && is_written_out output) ≡ true
+        → (at ≡ place.NoHead) × (output ≡ outgoing.Open [])
+    on place.NoHead (outgoing.Open []) all = (refl, refl)
+    on place.NoHead (outgoing.Open (b ∷ bytes)) all =
+        absurd (omega (arith, eqb-true (length (b ∷ bytes)) 0 all))
+    on place.NoHead (outgoing.Broken fault) all = absurd (true≢false (sym all))
+    on (place.Body rest) output all = absurd (true≢false (sym all))
+    on place.Done output all = absurd (true≢false (sym all))
+
+-- it stands as one that holds no task
+holds_none : (response : Writing) (tasks : List HttpTask) (taken : List ℕ)
+    → Holds response tasks taken → IsUnqueued response → Holds response [] []
+holds_none response tasks taken holds unqueued =
+    subst (λ (o : Outgoing). HoldsOn response o [] []) (sym unqueued.output)
+    (none (subst (λ (o : Outgoing). HoldsOn response o tasks taken) unqueued.output holds))
+  where
+    none : IsText response tasks (taken ++ []) → IsText response [] []
+    none text =
+        let stands : (wire response.request place.NoHead tasks).place ≡ place.NoHead =
+        ap (λ (k : Sent). k.place) text.wire.is ∙ unqueued.at in
+        let zero : text.counted ≡ 0 =
+        sym (ap (λ (k : Sent). k.counted) text.wire.is)
+        ∙ uncounted response.request tasks (ap (λ (k : Place). has_head k) stands) in
+        record {
+          counted = 0;
+          wire = subst (λ (k : Place). IsWire response.request []
+              (record { text = []; counted = 0; place = k })) (sym unqueued.at)
+              (record { is = refl; body = tt });
+          counts = text.counts ∙ ap (λ (n : ℕ). min n last_count) zero;
+        }
+
+-- ---- a request of which nothing was read
+
+-- no byte of its body was given out
+unread_body : (given body ahead : List ℕ) (now : Reading) → RequestSoFar given body ahead now
+    → is_unread now ≡ true → body ≡ []
+unread_body given body ahead reading.Head so_far unread = absurd (true≢false (sym unread))
+unread_body given body ahead (reading.Body request) so_far unread =
+    nil_from_length body (zero (request.received == 0) refl unread)
+  where
+    zero : (b : Bool) → (request.received == 0) ≡ b
+        → (b && (not (is_done request.body) || ends_with_head request.framing)) ≡ true
+        → length body ≡ 0
+    zero true is all = omega (arith, so_far.counted, eqb-true request.received 0 is)
+    zero false is all = absurd (true≢false (sym all))
+
+-- its body has ended only where its head says so
+unread_done : (given body ahead : List ℕ) (now : Reading) (head : RequestHead) (framing : Framing)
+    (len : ℕ) → HasRequest given head framing len → RequestSoFar given body ahead now
+    → (ends_with_head framing ≡ true → is_body_done now ≡ true) → is_unread now ≡ true
+    → is_body_done now ≡ ends_with_head framing
+unread_done given body ahead reading.Head head framing len has so_far headed unread =
+    absurd (true≢false (sym unread))
+unread_done given body ahead (reading.Body request) head framing len has so_far headed unread =
+    on (request.received == 0) (is_done request.body) (ends_with_head request.framing)
+    (ends_with_head framing) (ap (λ (f : Framing). ends_with_head f) same) headed unread
+  where
+    same : request.framing ≡ framing
+    same = (HasRequest-unique given so_far.head head request.framing framing so_far.len len
+        so_far.has has).1
+
+    on : (none done own ends : Bool) → own ≡ ends → (ends ≡ true → done ≡ true)
+        → (none && (not done || own)) ≡ true → done ≡ ends
+    on none done own true is headed all = headed refl
+    on none false own false is headed all = refl
+    on true true own false is headed all = absurd (true≢false (sym all ∙ is))
+    on false true own false is headed all = absurd (true≢false (sym all))
+
+-- ---- a session that stands as it did
+
+-- both halves of it do
+pub as_begun_parts : (session : HttpSession) → is_as_begun session ≡ true
+    → (is_unread session.reading ≡ true) × (is_unqueued session.writing ≡ true)
+as_begun_parts session all = on (is_unread session.reading) (is_unqueued session.writing) all
+  where
+    on : (a b : Bool) → (a && b) ≡ true → (a ≡ true) × (b ≡ true)
+    on true true all = (refl, refl)
+    on true false all = absurd (true≢false (sym all))
+    on false b all = absurd (true≢false (sym all))
+
+-- the same place, where the client's link stands
+abbrev pub rebased_to : Origin → LinkState → Origin
+rebased_to o client = record o { taken = told_length client.taken; faults = client.faults }
+
+-- such a session begins anew, where the client's link stands
+pub begins_again : (o : Origin) (down : DownPast) (client : LinkState) (ahead : List ℕ)
+    (session : HttpSession) → IsClient o down client ahead session
+    → is_as_begun session ≡ true
+    → BeginsBehind (rebased_to o client) down.came client ahead session
+begins_again o down client ahead session c begun =
+    let parts = as_begun_parts session begun in
+    let unqueued = unqueued_parts session.writing parts.1 in
+    let given : List ℕ = o.ahead ++ down.came in
+    let empty : c.body ≡ [] =
+    unread_body given c.body ahead session.reading c.request parts.0 in
+    record {
+      gave = c.came;
+      written = Since-start [] client.taken;
+      faults = le_refl client.faults;
+      head = c.head;
+      framing = c.framing;
+      len = c.len;
+      has = c.has;
+      has_head = c.has_head;
+      own = c.own;
+      answers = c.answers;
+      request = subst (λ (xs : List ℕ). RequestSoFar given xs ahead session.reading) empty
+          c.request;
+      done = unread_done given c.body ahead session.reading c.head c.framing c.len c.has c.request
+          c.headed parts.0;
+      whole = λ done. subst (λ (xs : List ℕ). IsWhole given xs ahead) empty (c.told_whole done);
+      response = holds_none session.writing (queued down) down.written c.response unqueued;
+      output = unqueued.output;
+      tells = c.tells;
+    }
+
+-- so does one that begins already, where nothing was written since
+pub based_begins : (o : Origin) (came : List ℕ) (client : LinkState) (ahead : List ℕ)
+    (session : HttpSession) → BeginsBehind o came client ahead session
+    → BeginsBehind (rebased_to o client) came client ahead session
+based_begins o came client ahead session b = record {
+  gave = b.gave;
+  written = Since-start [] client.taken;
+  faults = le_refl client.faults;
+  head = b.head;
+  framing = b.framing;
+  len = b.len;
+  has = b.has;
+  has_head = b.has_head;
+  own = b.own;
+  answers = b.answers;
+  request = b.request;
+  done = b.done;
+  whole = b.whole;
+  response = b.response;
+  output = b.output;
+  tells = b.tells;
+}
+
+-- it begins so for each head that may be sent, over whatever link
+pub begins_any : (o : Origin) (came : List ℕ) (client : LinkState) (ahead : List ℕ)
+    (session : HttpSession) (sent : RequestHead) (reused : Bool)
+    → BeginsBehind o came client ahead session
+    → BeginsBehind (record o { sent = sent; reused = reused }) came client ahead session
+begins_any o came client ahead session sent reused b = record {
+  gave = b.gave;
+  written = b.written;
+  faults = b.faults;
+  head = b.head;
+  framing = b.framing;
+  len = b.len;
+  has = b.has;
+  has_head = b.has_head;
+  own = b.own;
+  answers = b.answers;
+  request = b.request;
+  done = b.done;
+  whole = b.whole;
+  response = b.response;
+  output = b.output;
+  tells = b.tells;
+}
+
+-- the head of its request was accepted
+pub begins_accepted : (s : Start) (p : Passed) (o : Origin) (client : LinkState) (ahead : List ℕ)
+    (session : HttpSession) → o.ahead ≡ s.ahead → IsRelayable o.head
+    → BeginsBehind o p.came client ahead session → IsAccepted s p o.head
+begins_accepted s p o client ahead session same relayable b = record {
+  framing = b.framing;
+  len = b.len;
+  has = subst (λ (xs : List ℕ). HasRequest (xs ++ p.came) o.head b.framing b.len) same
+      (subst (λ (h : RequestHead). HasRequest (o.ahead ++ p.came) h b.framing b.len) b.own b.has);
+  relayable = relayable;
+}
+
+-- ---- behind a hook
+
+-- whether something was read does not depend on the head
+unread_with : (now : Reading) (head : RequestHead) → is_unread (with_head now head) ≡ is_unread now
+unread_with reading.Head head = refl
+unread_with (reading.Body request) head = refl
+
+-- a session that stands as begun behind a hook that read and queued nothing stood so before it
+pub as_begun_before : (first now : Seen) → ReadsNothing first now
+    → now.downstream.writing ≡ first.downstream.writing
+    → is_as_begun now.downstream ≡ true → is_as_begun first.downstream ≡ true
+as_begun_before first now reads same begun =
+    let head = request_head first in
+    let unread : is_unread now.downstream.reading ≡ is_unread first.downstream.reading =
+    sym (unread_with now.downstream.reading head)
+    ∙ (ap is_unread (reads.but_head head) ∙ unread_with first.downstream.reading head) in
+    ap (λ (b : Bool). b && is_unqueued first.downstream.writing) (sym unread)
+    ∙ ap (λ (w : Writing). is_unread now.downstream.reading && is_unqueued w) (sym same)
+    ∙ begun
