@@ -279,7 +279,12 @@ module _ (s : Start) (log closed : List LogEntry) where
 
   tries_on : (tries : List AttemptRecord) → AreTries (opened_to s log) tries
       → AreTries (closed_to s log closed) tries
-  tries_on tries are = record { told = are.told; each = are.each; allowed = are.allowed }
+  tries_on tries are = record {
+    fits = are.fits;
+    told = are.told;
+    each = are.each;
+    allowed = are.allowed;
+  }
 
   made_on : (why : Option Error) (attempts : List AttemptRecord)
       → MadeAhead (opened_to s log) why attempts → MadeAhead (closed_to s log closed) why attempts
@@ -293,6 +298,7 @@ module _ (s : Start) (log closed : List LogEntry) where
   attempts_on p w attempts e (AttemptsFailed.unlinked made) =
       AttemptsFailed.unlinked (record {
         refused = made.refused;
+        fits = made.fits;
         told = made.told;
         each = made.each;
         allowed = made.allowed;

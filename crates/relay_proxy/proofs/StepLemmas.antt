@@ -90,6 +90,7 @@ module _ {L : Type 0} (state : L → LinkState) (start_at : L → LinkStart) whe
       peer = leased.recorded ∙ ap (λ (x : Peer). Some x) (sym hands.recorded);
       reused = rw hands.is_link (hands.reused ∙ sym leased.reused);
       kept = hands.record_kept ∙ sym hands.kept;
+      unfaulted = hands.unfaulted;
     };
     error = own_error outcome hands.attempt.error hands.error;
     ends = rw (hands.is_link, hands.kept, hands.error) ends;
@@ -112,6 +113,7 @@ module _ {L : Type 0} (state : L → LinkState) (start_at : L → LinkStart) whe
       peer = leased.recorded ∙ ap (λ (x : Peer). Some x) (sym hands.recorded);
       reused = rw hands.is_link (hands.reused ∙ sym leased.reused);
       kept = hands.record_kept ∙ sym hands.kept;
+      unfaulted = hands.unfaulted;
     };
     error = hands.error;
   }
@@ -1193,7 +1195,7 @@ module _ {L C : Type 0} (state : L → LinkState) (start_at : L → LinkStart) w
       → Ends state start_at s p w own before after phase ending
   end_of s p [] w ReadHead before after ending does run =
       unlinked_end s p w ReadHead [] before after ending does run run.holds.unsent
-      (inl (refl, inl run.holds.written))
+      (inl ((refl, run.holds.untried.0), inl run.holds.written))
       (λ h. inl (subst (λ (xs : List ℕ). IsOpen xs) run.holds.whole h.0, h.1)) refl refl
       (λ n asked. asked) (λ tasks ends counted. (counted.0, omega (arith, counted.1)))
   end_of s p [] w (Connect context session tries) before after ending does run =
