@@ -14,8 +14,9 @@ use std::io::ErrorKind;
 use std::net::{Ipv4Addr, Net, SocketAddr};
 use std::sync::Wait;
 
-/// How the proxy of a server is set up.
-const CONF: ServerConf = ServerConf { max_retries: 2 };
+/// How the proxy of a server is set up: it makes 4 attempts of a request at most, since each kept
+/// connection may be closed by its peer at any time.
+const CONF: ServerConf = ServerConf { max_retries: 4 };
 
 /// Why serving stopped before so many requests had ended.
 #[derive(Clone, Copy)]

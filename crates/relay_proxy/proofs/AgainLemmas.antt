@@ -131,9 +131,7 @@ uncounted request (one ∷ tasks) none =
     on sent (inl (at, zero)) behind none =
         let rest : has_head (wire request place.NoHead tasks).place ≡ false =
         subst (λ (k : Place). has_head (wire request k tasks).place ≡ false) at none in
-        ap (λ (n : ℕ). n + (wire request sent.place tasks).counted) zero
-        ∙ ap (λ (k : Place). (wire request k tasks).counted) at
-        ∙ behind rest
+        omega (arith, zero, ap (λ (k : Place). (wire request k tasks).counted) at, behind rest)
     on sent (inr has) behind none =
         absurd (true≢false (sym (keep_head request sent.place tasks has) ∙ none))
 

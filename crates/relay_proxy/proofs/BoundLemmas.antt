@@ -594,6 +594,7 @@ module _ {L C : Type 0} (state : L → LinkState) (start_at : L → LinkStart) w
         own_gave = subst (λ (l : L). LinkGave state start_at l w.got) (sym leaves.0) w.peer_gave;
         tasks_within = omega (arith, w.tasks_within, before.tasks_are);
         ends_within = omega (arith, w.ends_within, before.ends_are, same_tries leaves.1);
+      }
       over_by w (Fail link lease keep session e) leaves = record {
         came = w.came;
         got = w.got;

@@ -1,9 +1,11 @@
 -- The calls of a request, by the phase that a turn leads to.
 --
 --   turn_allowed                   what the modules allow in a turn is allowed by modules
+--   walks_more, order_more         a log goes on past a call
 --   breaks_more .. relays_more     an attempt goes out behind a call, or fails
+--   treated_breaks                 its error was treated
+--   repeats_turn .. repeats_logged  and another attempt follows
 --   unopened_calls, begun_exchange  a turn that makes no call leaves the calls so far
---   relaying_calls                 and so does one of an exchange
 --   settled_calls                  and so does the settling of a phase
 use Rattle.std.proofs.Common.{◌≡◌, ℕ, ◌+◌, ◌≤◌, Bool, true, false, not, ◌&&◌, List, [], ◌∷◌, ◌++◌, length, length-append, append-nil, arith, Option, None, Some, refl, sym, ap, subst, ◌∙◌, true≢false}
 use Rattle.std.proofs.lemmas.List.Folds.{list_any-append}
@@ -119,13 +121,13 @@ none_logged allows log none = (
 )
 
 -- the calls of a session that had none are its log
-pub all_entries : (first now : Seen) (entries : List LogEntry) → first.log ≡ []
+all_entries : (first now : Seen) (entries : List LogEntry) → first.log ≡ []
     → now.log ≡ first.log ++ entries → entries ≡ now.log
 all_entries first now entries none log =
     sym (ap (λ (l : List LogEntry). l ++ entries) none) ∙ sym log
 
 -- the calls that were made of a session are one, up to where they lead
-pub called_stands : (allows : Standing → LogEntry → Type 0) (first now : Seen) (mark behind : ℕ)
+called_stands : (allows : Standing → LogEntry → Type 0) (first now : Seen) (mark behind : ℕ)
     (to : Station) (queues : Writing → Writing → List HttpTask → Type 0) (log : List LogEntry)
     → first.log ≡ [] → now.log ≡ log
     → HasCalled allows first mark station.accepted to queues now behind → IsLogged allows log to
@@ -345,17 +347,13 @@ module _ {C M K : Type 0} (allows : Standing → LogEntry → Type 0) (mark_of :
       (standing None false (moment (seen_with d left) (mark_of context'))) walks call.walk)
 
   -- up to the exchange the log is in order, up to where the hooks stand
-  pub opening_stands : (calls : Calls M K C) (context : C) (client : HttpSession)
-      (tries : List AttemptRecord) → IsOpening allows mark_of calls context client tries
-      → IsLogged allows (log_of calls) (station_at calls.at)
-  opening_stands calls context client tries o =
-      record { from = o.from; to = _; walks = o.walks; order = o.order }
-
   pub opening_logged : (calls : Calls M K C) (context : C) (client : HttpSession)
       (tries : List AttemptRecord) → IsOpening allows mark_of calls context client tries
       → (at : Station) × IsLogged allows (log_of calls) at
-  opening_logged calls context client tries o =
-      (station_at calls.at, opening_stands calls context client tries o)
+  opening_logged calls context client tries o = (
+    station_at calls.at,
+    record { from = o.from; to = _; walks = o.walks; order = o.order },
+  )
 
   -- behind one call more it is in order up to where that leads
   pub logged_more : (c d : Calls M K C) (context context' : C) (client left : HttpSession)

@@ -5,16 +5,15 @@
 --   leaves_part, broken_part   what passed is a part of one exchange, or nothing
 --   left_memory, left_broken   the phase behind the exchange
 --   treated_on, answered_on    the phase behind the treatment, and behind the answer
---   asked_by, unasked_by       the call behind which another attempt follows, or memory was wanted
---   repeats_on                 another attempt follows
+--   unasked                    memory was wanted for the call behind which another attempt follows
+--   repeats_called             another attempt follows
 --   treated_lost               the phase where memory was wanted
 use Rattle.std.specs.Global.{Box}
-use Rattle.std.proofs.Common.{◌≡◌, ℕ, ◌+◌, ◌<◌, Bool, true, false, not, List, [], ◌∷◌, ◌++◌, length, Some, refl, sym, ap, subst, ◌∙◌, inl, inr, arith, append-nil, is_some, true≢false}
+use Rattle.std.proofs.Common.{◌≡◌, ℕ, ◌+◌, ◌<◌, Bool, true, false, not, List, [], ◌∷◌, ◌++◌, length, Some, refl, sym, ap, subst, ◌∙◌, inl, inr, arith, append-nil, true≢false}
 use Rattle.std.specs.Prelude.{◌==◌, ◌⊎◌}
 use Rattle.relay_tasks.specs.Head.{RequestHead}
 use Rattle.relay_tasks.specs.declared.Error.{Error}
 use Rattle.relay_tasks.specs.declared.Fault.{Fault}
-use Rattle.relay_tasks.specs.declared.hook.Hook.{Hook}
 use Rattle.relay_tasks.specs.declared.hook.Hook.TheVariants as hook
 use Rattle.relay_tasks.specs.declared.log.LogEntry.{LogEntry}
 use Rattle.relay_tasks.specs.declared.task.HttpTask.{HttpTask}
@@ -33,6 +32,7 @@ use Rattle.relay_session.specs.declared.writing.Outgoing.TheVariants as outgoing
 use Rattle.relay_session.specs.declared.writing.Writing.{Writing}
 use Rattle.relay_hooks.specs.Standing.{Standing}
 use Rattle.relay_phases.specs.Order.{Station}
+use Rattle.relay_phases.specs.Order.{Station as station}
 use Rattle.relay_phases.specs.Turns.{QueuesNothing, Turns, wrote_in}
 use Rattle.relay_opening.specs.Told.{head_behind}
 use Rattle.relay_opening.specs.declared.place.End.TheVariants as end
@@ -45,11 +45,11 @@ use Rattle.relay_peer.specs.Body.{IsFrontOf}
 use Rattle.relay_attempt.specs.Order.{order_of, queued_in}
 use Rattle.relay_attempt.specs.Passed.{Passed}
 use Rattle.relay_proxy.specs.Answer.{answer_to, owed_text, WaitsOf}
-use Rattle.relay_proxy.specs.Calls.{CallsNext, GoesOn, TakesNext, comes_next, is_before, leads_at, log_of, seen_with, station_at}
+use Rattle.relay_proxy.specs.Calls.{CallsNext, GoesOn, IsUnended, TakesNext, leads_at, log_of, seen_with}
 use Rattle.relay_proxy.specs.Endings.{IsInOrder, IsGiven, FailsToWrite, IsPartRelayed, Misses}
 use Rattle.relay_proxy.specs.Leaving.{Answers}
 use Rattle.relay_proxy.specs.Legs.{FailsAgain, RepeatsOn}
-use Rattle.relay_proxy.specs.Passed.{World, Start, based, closed_to, opened_to, origin_of, IsUnsent, IsUntouched, TellsClient}
+use Rattle.relay_proxy.specs.Passed.{World, Start, based, called_to, closed_to, opened_to, origin_of, IsUnsent, IsUntouched, TellsClient}
 use Rattle.relay_proxy.specs.Phases.{IsBroken, IsCalm, IsGoing, IsLeased, LeavesAhead, LeavesSession, PhaseHolds, RunSoFar}
 use Rattle.relay_proxy.specs.Relayable.{IsAccepted}
 use Rattle.relay_proxy.specs.Sent.{IsAnswered, IsTreated}
@@ -70,7 +70,7 @@ use Rattle.relay_proxy.proofs.NamedLemmas.{TellsSame, tells_same}
 use Rattle.relay_proxy.proofs.OpenHead.{exchange_open}
 use Rattle.relay_proxy.proofs.OpenSteps.{begins_on, called_accepted, called_tells, closed_accepted, closed_tells, left_on, once_goes_on, once_open, once_request, stays_connecting, wrote_on}
 use Rattle.relay_proxy.proofs.PrepareSteps.{leased_on}
-use Rattle.relay_proxy.proofs.TreatLemmas.{refuses_on, sends_on}
+use Rattle.relay_proxy.proofs.TreatLemmas.{refuses_on, sends_on, still_open, unended_more}
 
 -- ---- what waits
 
@@ -566,36 +566,6 @@ given_ahead response request tasks taken own holds unqueued =
       text = sym (append-nil taken) ∙ ap (λ (k : Sent). k.text) (sym sent);
     }
 
--- the hook was called that asks whether the warning of an attempt's error is not to be written, and
--- the request goes on behind it
-pub record IsAsked {C M K : Type 0} (allows : Standing → LogEntry → Type 0) (old : Calls M K C)
-    (client : HttpSession) (mark : ℕ) (new : Calls M K C) (left : HttpSession) (behind : ℕ)
-    : Type 0 where
-  pub turn : Turns allows hook.SuppressProxyWarnLog (station_at old.at) (station_at new.at)
-      QueuesNothing (seen_with old client) mark (seen_with new left) behind
-
--- it is that which is called next there
-pub asked_by : {C M K : Type 0} (allows : Standing → LogEntry → Type 0) (old new : Calls M K C)
-    (client left : HttpSession) (mark behind : ℕ) (error : Error) → old.at ≡ at.Repeatable error
-    → leads_at new.at ≡ led.GoesOn → CallsNext allows old client mark new left behind
-    → IsAsked allows old client mark new left behind
-asked_by allows old new client left mark behind error is goes
-    (TakesNext.leads before which comes there to turn) =
-    absurd (true≢false (sym before ∙ ap (λ (a : At _ _). is_before a) is))
-asked_by allows old new client left mark behind error is goes (TakesNext.tried t) = record {
-  turn = subst (λ (which : Hook). Turns allows which (station_at old.at) (station_at new.at)
-      QueuesNothing (seen_with old client) mark (seen_with new left) behind)
-      (one_next t.which (sym t.comes
-      ∙ ap (λ (a : At _ _). comes_next a (is_some old.session.modules)) is)) t.turn;
-}
-  where
-    one_next : (which : Hook) → Some which ≡ Some hook.SuppressProxyWarnLog
-        → which ≡ hook.SuppressProxyWarnLog
-    one_next which same = cc
-asked_by allows old new client left mark behind error is goes (TakesNext.lost to same) =
-    absurd (let clash : led.OutOfMemory ≡ led.GoesOn =
-    sym (ap (λ (a : At _ _). leads_at a) to) ∙ goes in cc)
-
 -- where the request goes on a call did not lead out of memory
 goes_leads : {K X : Type 0} (a : At K X) → GoesOn a → leads_at a ≡ led.GoesOn
 goes_leads (at.Kept kept) goes = absurd goes
@@ -614,17 +584,16 @@ goes_leads at.Linked goes = refl
 goes_leads (at.Treated error) goes = absurd goes
 goes_leads (at.Closing held there) goes = absurd goes
 
--- memory was wanted for the call, and the log is as it was
-pub unasked_by : {C M K : Type 0} (allows : Standing → LogEntry → Type 0) (old new : Calls M K C)
-    (client left : HttpSession) (mark behind : ℕ) (error : Error) → old.at ≡ at.Repeatable error
-    → (leads_at new.at ≡ led.GoesOn → ⊥) → CallsNext allows old client mark new left behind
-    → log_of new ≡ log_of old
-unasked_by allows old new client left mark behind error is stops
-    (TakesNext.leads before which comes there to turn) =
-    absurd (true≢false (sym before ∙ ap (λ (a : At _ _). is_before a) is))
-unasked_by allows old new client left mark behind error is stops (TakesNext.tried t) =
-    absurd (stops (goes_leads new.at t.goes))
-unasked_by allows old new client left mark behind error is stops (TakesNext.lost to same) = same
+-- memory was wanted for the call that asks for the warning of an error, and the log is as it was
+pub unasked : {C M K : Type 0} (allows : Standing → LogEntry → Type 0) (c d : Calls M K C)
+    (client left : HttpSession) (mark behind : ℕ) (error : Error)
+    → CallsNext allows (record c { at = at.Repeatable error }) client mark d left behind
+    → (leads_at d.at ≡ led.GoesOn → ⊥) → log_of d ≡ log_of c
+unasked allows c d client left mark behind error (TakesNext.leads before which comes there to turn)
+    stops = absurd (true≢false (sym before))
+unasked allows c d client left mark behind error (TakesNext.tried t) stops =
+    absurd (stops (goes_leads d.at t.goes))
+unasked allows c d client left mark behind error (TakesNext.lost to same) stops = same
 
 module _ {L C M K : Type 0} (state : L → LinkState) (start_at : L → LinkStart)
     (allows : Standing → LogEntry → Type 0) (c d : Calls M K C) (mark behind : ℕ) (s : Start)
@@ -634,28 +603,30 @@ module _ {L C M K : Type 0} (state : L → LinkState) (start_at : L → LinkStar
     (Broken context session link lease keep raised))
     (is_treated : IsTreated (log_of c) raised treated) (begun : is_as_begun session.value ≡ true)
     (may : MayTry s.most (1 + length (tries_in lease)) treated)
-    (asked : IsAsked allows c session.value mark d left.value behind)
+    (to : Station)
+    (turn : Turns allows hook.SuppressProxyWarnLog station.repeatable to QueuesNothing
+    (seen_with c session.value) mark (seen_with d left.value) behind)
   where
     -- the head that the log tells is the session's
     asked_left : (head : RequestHead)
         → head_of session.value.reading ≡ Some (head_behind head (log_of c))
         → head_of left.value.reading ≡ Some (head_behind head (log_of d))
     asked_left = left_on allows c d session.value left.value mark behind hook.SuppressProxyWarnLog
-        (station_at c.at) (station_at d.at) QueuesNothing asked.turn
+        station.repeatable to QueuesNothing turn
 
     -- nothing was queued
     asked_quiet : wrote_in (log_of c) ≡ [] → wrote_in (log_of d) ≡ []
     asked_quiet quiet =
         wrote_on allows c d session.value left.value mark behind hook.SuppressProxyWarnLog
-        (station_at c.at) (station_at d.at) QueuesNothing asked.turn quiet
-        ∙ asked.turn.queued.wrote_none
+        station.repeatable to QueuesNothing turn quiet
+        ∙ turn.queued.wrote_none
 
     -- and a session begins as before
     asked_begins : (o : Origin) → BeginsBehind o p.came w.client w.ahead session.value
         → BeginsBehind o p.came w.client w.ahead left.value
     asked_begins o begins =
         begins_on o p.came w.client w.ahead (seen_with c session.value) (seen_with d left.value)
-        asked.turn.calls.reads asked.turn.queued.same begins
+        turn.calls.reads turn.queued.same begins
 
     -- why the attempt failed
     fails_again : IsBroken (opened_to s (log_of c)) p w (state link) (start_at link) session.value
@@ -711,7 +682,7 @@ module _ {L C M K : Type 0} (state : L → LinkState) (start_at : L → LinkStar
         }
 
     -- another attempt follows
-    pub repeats_on : RepeatsOn {C = C} state start_at (opened_to s (log_of d)) w
+    repeats_on : RepeatsOn {C = C} state start_at (opened_to s (log_of d)) w
         (Again context' left link lease keep treated)
     repeats_on =
         let next = begins_next run.holds.1 in
@@ -725,9 +696,9 @@ module _ {L C M K : Type 0} (state : L → LinkState) (start_at : L → LinkStar
           is = refl;
           passed = p;
           before = log_of c;
-          asked = asked.turn.e;
-          called = asked.turn.calls.log;
-          asks = asked.turn.hook;
+          asked = turn.e;
+          called = turn.calls.log;
+          asks = turn.hook;
           unclosed = refl;
           tells = called_tells s (log_of c) (log_of d) p w run.tells;
           untouched = run.untouched;
@@ -740,6 +711,15 @@ module _ {L C M K : Type 0} (state : L → LinkState) (start_at : L → LinkStar
           quiet = next.quiet;
           begins = next.begins;
         }
+
+    -- so it does by all calls that were made
+    pub repeats_called : IsUnended (log_of c) → RepeatsOn {C = C} state start_at
+        (called_to s (log_of d)) w (Again context' left link lease keep treated)
+    repeats_called none =
+        subst (λ (t : Start). RepeatsOn {C = C} state start_at t w
+        (Again context' left link lease keep treated))
+        (sym (still_open s (log_of d) (unended_more (log_of c) (log_of d) turn.e
+        hook.SuppressProxyWarnLog turn.calls.log turn.hook refl none))) repeats_on
 
 -- memory was wanted for one of both
 pub treated_lost : {L C : Type 0} (state : L → LinkState) (start_at : L → LinkStart)

@@ -34,7 +34,7 @@ use Rattle.relay_attempt.specs.Passed.{Passed}
 use Rattle.relay_authority.specs.Entry.{Entered}
 use Rattle.relay_proxy.specs.Relayable.{IsConnect, NamesUpgrade}
 use Rattle.relay_proxy.specs.Passed.{World, Start, start_of, origin_of, nothing, asked, TellsClient, IsUnsent}
-use Rattle.relay_proxy.specs.Endings.{IsInOrder, IsLeftAlone, IsTurnedDown, EndsUnlinked, AttemptsUnlinked, ended_outcome, left_early}
+use Rattle.relay_proxy.specs.Endings.{IsInOrder, IsLeftAlone, IsTurnedDown, EndsUnlinked, AttemptsUnlinked, MadeNone, ended_outcome, left_early}
 use Rattle.relay_proxy.specs.Ahead.{unrelayed}
 use Rattle.relay_proxy.specs.Tries.{fault_error}
 use Rattle.relay_proxy.specs.Phases.{RunSoFar}
@@ -144,7 +144,7 @@ ended_unlinked s p x (b ∷ bytes) is open_head ended written unsent =
 
 -- no attempt was made then
 ended_attempts : (s : Start) (p : Passed) (x : World) (bytes : List ℕ)
-    (attempts : List AttemptRecord) → attempts ≡ []
+    (attempts : List AttemptRecord) → MadeNone s attempts
     → AttemptsUnlinked s p x attempts (ended_outcome bytes)
 ended_attempts s p x [] attempts none = none
 ended_attempts s p x (b ∷ bytes) attempts none = none
@@ -221,7 +221,7 @@ module _ {L C : Type 0} (state : L → LinkState) (start_at : L → LinkStart) w
             ended_unlinked s p x x.ahead whole
                 (subst (λ (xs : List ℕ). IsOpen xs) run.holds.whole open_head) ends.ended
                 run.holds.written run.holds.unsent,
-            ended_attempts s p x x.ahead attempts none,
+            ended_attempts s p x x.ahead attempts (none, run.holds.untried.0),
           );
     };
   }
@@ -266,7 +266,7 @@ module _ {L C : Type 0} (state : L → LinkState) (start_at : L → LinkStart) w
           });
           unsent = run.holds.unsent;
         })),
-        none,
+        (none, run.holds.untried.0),
       );
     };
   }
@@ -331,7 +331,7 @@ module _ {L C : Type 0} (state : L → LinkState) (start_at : L → LinkStart) w
               written = run.holds.written;
               unsent = run.holds.unsent;
             })),
-            none,
+            (none, run.holds.untried.0),
           );
         };
       }
@@ -356,5 +356,5 @@ module _ {L C : Type 0} (state : L → LinkState) (start_at : L → LinkStart) w
           some = generated_some status;
           joined = ap (λ (xs : List ℕ). xs ++ generated status) run.holds.written;
         };
-        made = none;
+        made = (none, run.holds.untried.0);
       })

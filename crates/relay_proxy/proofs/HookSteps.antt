@@ -15,7 +15,6 @@ use Rattle.relay_tasks.specs.declared.Peer.{Peer}
 use Rattle.relay_tasks.specs.declared.hook.Hook.{Hook}
 use Rattle.relay_tasks.specs.declared.hook.Hook.TheVariants as hook
 use Rattle.relay_tasks.specs.declared.log.LogEntry.{LogEntry}
-use Rattle.relay_tasks.specs.declared.task.HttpTask.{HttpTask}
 use Rattle.relay_session.specs.Asked.{request_of}
 use Rattle.relay_session.specs.Response.{IsOpen, has_head}
 use Rattle.relay_session.specs.declared.session.HttpSession.{HttpSession}
@@ -194,14 +193,6 @@ final_fails at.Warning log e is tells = cc
 final_fails at.Linked log e is tells = cc
 final_fails (at.Treated error) log e is tells = cc
 final_fails (at.Closing held there) log e is tells = cc
-
--- nothing was queued twice
-pub quiet_twice : (a b c : Writing) (v w : List HttpTask) → QueuesNothing a b v
-    → QueuesNothing b c w → QueuesNothing a c (v ++ w)
-quiet_twice a b c v w first then = record {
-  same = then.same ∙ first.same;
-  wrote_none = ap (λ (l : List HttpTask). l ++ w) first.wrote_none ∙ then.wrote_none;
-}
 
 module _ {C M K : Type 0} (allows : Standing → LogEntry → Type 0) (mark_of : C → ℕ)
     (old new : Calls M K C) (context context' : C) (client left : HttpSession)

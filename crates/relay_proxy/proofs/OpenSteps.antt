@@ -3,6 +3,7 @@
 --   called_tells, called_reads     what passed, by the calls that were made since
 --   begins_on                      a session whose head a hook may have changed begins as before
 --   left_on                        the head that the log tells is the session's
+--   none_tried                     no attempt was made
 --   stays_connecting               a call behind which the request goes on
 --   hooks_answer, hooks_stop       calls that end it
 use Rattle.std.specs.Global.{Box}
@@ -52,7 +53,7 @@ use Rattle.relay_peer.proofs.FaultLemmas.{grew_same}
 use Rattle.relay_proxy.specs.Calls.{log_of, seen_with}
 use Rattle.relay_closing.specs.Queued.{QueuesOnce}
 use Rattle.relay_proxy.specs.Ahead.{IsAnswerOf, IsOwedAhead, IsStoppedFor}
-use Rattle.relay_proxy.specs.Endings.{IsInOrder, AttemptsFailed, AttemptsUnlinked, EndsAhead, EndsUnlinked, MadeAhead}
+use Rattle.relay_proxy.specs.Endings.{IsInOrder, AttemptsFailed, AttemptsUnlinked, EndsAhead, EndsUnlinked, MadeAhead, MadeNone}
 use Rattle.relay_proxy.specs.Passed.{World, Start, asked, closed_to, opened_to, origin_of, IsUnsent, TellsClient}
 use Rattle.relay_proxy.specs.Phases.{IsConnecting, RunSoFar}
 use Rattle.relay_proxy.specs.Relayable.{IsAccepted, IsRelayable}
@@ -132,6 +133,15 @@ pub closed_tries : (s : Start) (log closed : List LogEntry) (tries : List Attemp
     → AreTries (opened_to s log) tries → AreTries (closed_to s log closed) tries
 closed_tries s log closed tries are =
     record { fits = are.fits; told = are.told; each = are.each; allowed = are.allowed }
+
+-- where there is no attempt there was none before
+pub none_tried : (s : Start) (tries : List AttemptRecord) → AreTries s tries → tries ≡ []
+    → MadeNone s tries
+none_tried s tries are none = (none, none_before s.tried _ (sym are.told ∙ none))
+  where
+    none_before : (xs ys : List AttemptRecord) → xs ++ ys ≡ [] → xs ≡ []
+    none_before [] ys is = refl
+    none_before (x ∷ xs) ys is = cc
 
 -- a log of one call tells of none
 lone_untold : (es : List LogEntry) → length es ≡ 1 → refusals_in es ≡ []

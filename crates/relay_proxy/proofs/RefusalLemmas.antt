@@ -85,7 +85,8 @@ told_before_link state start_at tries (Prepare context session link lease) work 
 told_before_link state start_at tries (Relay a) work counts held = absurd counts
 told_before_link state start_at tries (Broken context session link lease keep error) work counts held =
     ap (λ (xs : List AttemptRecord). faults_told xs) counts.2
-told_before_link state start_at tries (Again context session link lease keep error) work counts held =
+told_before_link state start_at tries (Again context session link lease keep error) work counts
+    held =
     absurd counts
 told_before_link state start_at tries (Fail link lease keep session error) work counts held =
     absurd counts

@@ -45,6 +45,12 @@ stays_ready (Ok zero) offered = true
 stays_ready (Ok (suc n)) offered = suc n == offered
 stays_ready (Err error) offered = not (would_block (error_kind error))
 
+-- a look at what there is to read shows an open connection on which nothing came: it would have to
+-- wait
+abbrev pub shows_idle : Result ℕ Error → Bool
+shows_idle (Ok n) = false
+shows_idle (Err error) = would_block (error_kind error)
+
 -- the fault of a link, by its kind: another attempt may help where the connection was used before
 abbrev pub link_fault : FaultKind → Fault
 link_fault kind = record { kind = kind; retry = ReusedOnly }

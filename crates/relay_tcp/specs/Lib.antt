@@ -1,3 +1,4 @@
 pub mod Answer
+pub mod IdleLinks
 pub mod TcpConnector
 pub mod TcpLink

@@ -51,6 +51,11 @@ pub record IsUnused (link : TcpLink) (reused : Bool) : Type 0 where
   pub ended : link.ended ≡ false
   pub marked : link.reused ≡ reused
 
+-- both links are over one connection
+pub record IsSameConnection (link other : TcpLink) : Type 0 where
+  pub stream : other.stream ≡ link.stream
+  pub seat : other.seat ≡ link.seat
+
 -- once the borrow r ends, the link is as it was, over the stream that r shows last
 abbrev pub LendsStream : MutBor TcpLink → MutBor TcpStream → Fml
 LendsStream link r = Lends link_row stream_row link r (λ w. record link.now { stream = w })

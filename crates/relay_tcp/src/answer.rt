@@ -1,6 +1,6 @@
 //! What a call of a socket means: the answer of a link that follows from what the socket gave.
 ghost use Rattle.std.specs.Prelude.{◌≡◌};
-ghost use Rattle.relay_tcp.specs.Answer.{trouble_of, would_block, stays_ready, AnswersRead, AnswersWrite};
+ghost use Rattle.relay_tcp.specs.Answer.{trouble_of, would_block, stays_ready, shows_idle, AnswersRead, AnswersWrite};
 
 use relay_links::{Got, Put};
 use relay_tasks::{Fault, FaultKind, RetryType};
@@ -73,6 +73,17 @@ pub(crate) fn stays_ready(moved: &io::Result<usize>, offered: usize) -> bool
         Ok(0) => true,
         Ok(count) => *count == offered,
         Err(error) => !would_block(error.kind()),
+    }
+}
+
+/// Whether a connection is open and nothing came on it, as far as a look at what there is to read
+/// shows. An end, bytes and a failure are met at once; else the look would have to wait.
+pub(crate) fn shows_idle(seen: &io::Result<usize>) -> bool
+    ensures { result ≡ shows_idle seen.now }
+{
+    match seen {
+        Ok(_) => false,
+        Err(error) => would_block(error.kind()),
     }
 }
 

@@ -4,6 +4,7 @@
 #![tactic(auto)]
 
 mod answer;
+mod idle;
 mod lingering;
 mod readiness;
 mod tcp_connector;

@@ -82,6 +82,11 @@ impl Readiness {
         Ok(Arc::new(alloc, Readiness { registry, slots })?)
     }
 
+    /// The allocator that its table is from.
+    pub(crate) fn allocator(&self) -> Global {
+        *self.slots.allocator()
+    }
+
     /// Notes what a wait gave. Call it for each event before a link is asked again; those of token
     /// 0 change nothing.
     pub fn tell(&self, event: &Event) {

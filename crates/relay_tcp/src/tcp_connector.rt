@@ -1,13 +1,16 @@
-//! A connector that opens a TCP connection to a fixed address, whatever the peer is. It tells no
-//! list of the links that come back; its faults it tells, since they are all the same.
-ghost use Rattle.std.specs.Prelude.{◌≡◌, ◌+◌, ◌≤◌, ◌<◌, [], ◌∷◌, None, false, IfOk, IfErr, OnOk, IsOkUnless, is_ok, if◌then◌else◌};
+//! A connector that opens a TCP connection to a fixed address, whatever the peer is, and keeps links
+//! that come back to be used again. It tells no list of all that came back; its faults it tells,
+//! since they are all the same.
+ghost use Rattle.std.specs.Prelude.{◌≡◌, ◌+◌, ◌≤◌, ◌<◌, [], ◌∷◌, length, None, IfOk, IfErr, OnOk, IsOkUnless, is_ok, if◌then◌else◌};
 ghost use Rattle.relay_links.specs.Count.{last_count, up, Rose};
 ghost use Rattle.relay_links.specs.Connector.{IsConnectFault};
 ghost use Rattle.relay_links.specs.Link.{IsHandedOut};
 ghost use Rattle.relay_links.specs.Told.{Gains};
-ghost use Rattle.relay_tcp.specs.TcpLink.{tcp_state, tcp_start, IsUnused};
-ghost use Rattle.relay_tcp.specs.TcpConnector.{links_out, gets_failed, faults_answered, IsNew, OpensSocket};
+ghost use Rattle.relay_tcp.specs.TcpLink.{tcp_state, tcp_start};
+ghost use Rattle.relay_tcp.specs.IdleLinks.{with_last};
+ghost use Rattle.relay_tcp.specs.TcpConnector.{links_out, links_kept, gets_failed, faults_answered, IsNew, OpensSocket, HandsOut};
 
+use crate::idle::IdleLinks;
 use crate::readiness::{Origin, Readiness, Seat, watch};
 use crate::tcp_link::TcpLink;
 use mio::net::TcpStream;
@@ -17,13 +20,15 @@ use std::io;
 use std::net::{Net, SocketAddr};
 use std::sync::Arc;
 
-/// Connects to its address at each `get`, and closes each link that comes back. Each connection is
-/// watched by a poll.
+/// Hands out the last link to the peer that came back to be kept, where one is idle, and else
+/// connects to its address. It keeps 64 idle links at most. Each connection is watched by a poll,
+/// also while it is idle.
 #[derive(Drop)]
 pub struct TcpConnector<R> {
     rt: R,
     address: SocketAddr,
     readiness: Arc<Readiness>,
+    idle: IdleLinks,
     out: u64,
     faults: u64,
 }
@@ -32,7 +37,7 @@ impl<R: Net + Clone + Drop> TcpConnector<R> {
     ghost use Rattle.relay_tasks.specs.declared.error.Fail.{Fail};
 
     /// A connector to that address, with a copy of the runtime, whose connections are watched
-    /// there. It fails only where the runtime finds no memory for its copy.
+    /// there. It fails only where there is no memory for the copy, or for the links to keep.
     pub fn new(
         rt: &R,
         address: SocketAddr,
@@ -41,10 +46,12 @@ impl<R: Net + Clone + Drop> TcpConnector<R> {
         ensures ok { IfOk result (λ connector. IsNew connector address) }
         ensures err { IsOkUnless result Fail.OutOfMemory }
     {
+        let idle = IdleLinks::new(readiness.allocator())?;
         Ok(TcpConnector {
             rt: rt.clone()?,
             address,
             readiness,
+            idle,
             out: 0,
             faults: 0,
         })
@@ -75,9 +82,10 @@ impl<R: Net + Clone + Drop> Connector for TcpConnector<R> {
 
     ghost fault_count = { gets_failed };
 
-    /// A new link, whose connection may not stand yet: a fault in making it is then answered by the
-    /// link. `Connect` where the system refuses at once, or where 2^64 - 1 links are out.
-    fn get(&mut self, _peer: &Peer) -> Result<(TcpLink, bool), Fault>
+    /// A link that was kept, or a new one, whose connection may not stand yet: a fault in making it
+    /// is then answered by the link. `Connect` where the system refuses at once, or where 2^64 - 1
+    /// links are out.
+    fn get(&mut self, peer: &Peer) -> Result<(TcpLink, bool), Fault>
         ensures handed { IfOk result (λ got.
             IsHandedOut (tcp_state got.0) (tcp_start got.0) got.1) }
         ensures out { links_out self.new
@@ -90,6 +98,8 @@ impl<R: Net + Clone + Drop> Connector for TcpConnector<R> {
         ensures rose { IfErr result (λ _. Rose (gets_failed self.old) (gets_failed self.new)) }
         ensures fits { (gets_failed self.old ≤ last_count) × (gets_failed self.new ≤ last_count) }
         ensures socket { OpensSocket (gets_failed self.old) (gets_failed self.new) result }
+        ensures pool { HandsOut peer.now (links_kept self.old) result (links_kept self.new) }
+        ensures few { length (links_kept self.new) ≤ 64 }
         ensures address { self.new.address ≡ self.old.address }
     {
         let faults = self.faults;
@@ -97,6 +107,10 @@ impl<R: Net + Clone + Drop> Connector for TcpConnector<R> {
             self.faults = faults.saturating_add(1);
             return Err(REFUSED);
         };
+        if let Some(link) = self.idle.take(peer) {
+            self.out = out;
+            return Ok((link, true));
+        }
         match self.open() {
             Ok((stream, seat)) => {
                 self.out = out;
@@ -109,8 +123,23 @@ impl<R: Net + Clone + Drop> Connector for TcpConnector<R> {
         }
     }
 
-    fn release(&mut self, _peer: Peer, _link: TcpLink, _keep: bool) {
+    /// Keeps the link, or closes it. Past the bound the one that has been idle for longest is
+    /// closed.
+    fn release(&mut self, peer: Peer, link: TcpLink, keep: bool)
+        requires { 0 < links_out self.old }
+        ensures out { links_out self.new + 1 ≡ links_out self.old }
+        ensures refusals { faults_answered self.new ≡ faults_answered self.old }
+        ensures faults { gets_failed self.new ≡ gets_failed self.old }
+        ensures pool { links_kept self.new ≡ (if keep
+            then with_last (links_kept self.old) (record { peer = peer; link = link })
+            else links_kept self.old) }
+        ensures few { length (links_kept self.new) ≤ 64 }
+        ensures address { self.new.address ≡ self.old.address }
+    {
         self.out -= 1;
+        if keep {
+            self.idle.keep(peer, link);
+        }
     }
 
     fn faults(&self) -> u64 {

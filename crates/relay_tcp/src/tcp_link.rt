@@ -1,10 +1,10 @@
 //! A link over a TCP connection that does not block. It tells no content.
-ghost use Rattle.std.specs.Prelude.{◌≡◌, ◌<◌, length};
+ghost use Rattle.std.specs.Prelude.{◌≡◌, ◌<◌, true, false, length};
 ghost use Rattle.std.specs.Borrow.{sem};
 ghost use Rattle.relay_links.specs.Link.{IsHandedOut, Reads, Writes};
-ghost use Rattle.relay_tcp.specs.TcpLink.{tcp_state, tcp_start, IsUnused, LendsStream, ReadsSocket, WritesSocket};
+ghost use Rattle.relay_tcp.specs.TcpLink.{tcp_state, tcp_start, IsUnused, IsSameConnection, LendsStream, ReadsSocket, WritesSocket};
 
-use crate::answer::{read_answer, write_answer};
+use crate::answer::{read_answer, shows_idle, write_answer};
 use crate::readiness::{Seat, Side};
 use mio::net::TcpStream;
 use relay_links::{ByteLink, Got, Put};
@@ -45,6 +45,8 @@ impl TcpLink {
     }
 
     fn over(stream: TcpStream, seat: Option<Seat>, reused: bool) -> TcpLink
+        ensures stream { result.stream ≡ stream }
+        ensures seat { result.seat ≡ seat }
         ensures unused { IsUnused result reused }
         ensures handed { IsHandedOut (tcp_state result) (tcp_start result) reused }
     {
@@ -57,6 +59,26 @@ impl TcpLink {
             faults: 0,
             reused,
         }
+    }
+
+    /// Whether the connection is open and nothing came on it that was not read, as far as the system
+    /// tells now. Its bytes stay, and so does what the seat knows.
+    pub(crate) fn is_idle(&self) -> bool
+        ensures was_open { result ≡ true → self.now.ended ≡ false }
+        ensures faultless { result ≡ true → self.now.faults ≡ 0 }
+    {
+        if self.ended || self.faults > 0 {
+            return false;
+        }
+        shows_idle(&self.stream.peek(&mut [0]))
+    }
+
+    /// A link over the same connection that has answered nothing, marked as reused.
+    pub(crate) fn again(self) -> TcpLink
+        ensures connection { IsSameConnection self result }
+        ensures unused { IsUnused result true }
+    {
+        TcpLink::over(self.stream, self.seat, true)
     }
 
     /// Whether the socket is to be asked.

@@ -17,10 +17,17 @@ const ROUNDS: usize = 1000;
 // How many links a poll can tell of at once.
 const SLOTS: usize = 256;
 
+// How many idle links a connector keeps.
+const MOST_IDLE: usize = 64;
+
 fn peer() -> Peer {
+    peer_at(b"any", false)
+}
+
+fn peer_at(address: &'static [u8], tls: bool) -> Peer {
     Peer {
-        address: Bytes::from_static(b"any"),
-        tls: false,
+        address: Bytes::from_static(address),
+        tls,
         allows_h1: true,
     }
 }
@@ -122,10 +129,162 @@ fn what_one_end_writes_the_other_reads_and_a_release_ends_it(rt: HostRuntime) ->
     assert_eq!(rt; far.write(b"pong"), Put::Took(4));
     let pong = read_four(&mut waiting, &mut near, ROUNDS)?;
     assert_eq!(rt; pong, (Got::Bytes(4), *b"pong"));
-    connector.release(peer(), near, true);
+    connector.release(peer(), near, false);
     assert_eq!(rt; read_four(&mut waiting, &mut far, ROUNDS)?.0, Got::End);
     assert_eq!(rt; read_four(&mut waiting, &mut far, 1)?.0, Got::End);
     assert_eq!(rt; (reused, far.faults(), connector.faults()), (false, 0, 0));
+    Ok(())
+}
+
+/// A new link of that connector, and its far end.
+fn connect(
+    rt: &HostRuntime,
+    listener: &TcpListener,
+    connector: &mut TcpConnector<HostRuntime>,
+) -> Result<(TcpLink, TcpLink), Fail> {
+    match connector.get(&peer()).ok().ok_or("refused")? {
+        (near, false) => Ok((near, accept(rt, listener)?)),
+        (_, true) => Err(Fail::from("reused")),
+    }
+}
+
+/// Whether the next link to that peer was used before. It goes back, and is not kept.
+fn reuses(connector: &mut TcpConnector<HostRuntime>, peer: Peer) -> Result<bool, Fail> {
+    let (near, reused) = connector.get(&peer).ok().ok_or("refused")?;
+    connector.release(peer, near, false);
+    Ok(reused)
+}
+
+#[test]
+fn a_kept_link_is_handed_out_again(rt: HostRuntime) -> Result<(), Fail> {
+    let mut waiting = Waiting::new(&rt)?;
+    let listener = listen(&rt)?;
+    let mut connector = connector(&rt, listener.local_addr()?, &waiting)?;
+    let (near, mut far) = connect(&rt, &listener, &mut connector)?;
+    let mut kept = near;
+    for _ in 0..3 {
+        assert_eq!(rt; kept.write(b"ping"), Put::Took(4));
+        let ping = read_four(&mut waiting, &mut far, ROUNDS)?;
+        assert_eq!(rt; ping, (Got::Bytes(4), *b"ping"));
+        assert_eq!(rt; far.write(b"pong"), Put::Took(4));
+        let pong = read_four(&mut waiting, &mut kept, ROUNDS)?;
+        assert_eq!(rt; pong, (Got::Bytes(4), *b"pong"));
+        connector.release(peer(), kept, true);
+        let (near, reused) = connector.get(&peer()).ok().ok_or("refused")?;
+        assert_eq!(rt; (reused, near.used(), near.faults()), (true, 0, 0));
+        kept = near;
+    }
+    assert!(rt; listener.accept().is_err());
+    Ok(())
+}
+
+#[test]
+fn a_link_to_another_peer_is_not_handed_out(rt: HostRuntime) -> Result<(), Fail> {
+    let waiting = Waiting::new(&rt)?;
+    let listener = listen(&rt)?;
+    let mut connector = connector(&rt, listener.local_addr()?, &waiting)?;
+    let (near, _far) = connect(&rt, &listener, &mut connector)?;
+    connector.release(peer(), near, true);
+    assert!(rt; !reuses(&mut connector, peer_at(b"other", false))?);
+    assert!(rt; !reuses(&mut connector, peer_at(b"an", false))?);
+    assert!(rt; !reuses(&mut connector, peer_at(b"any", true))?);
+    assert!(rt; reuses(&mut connector, peer())?);
+    Ok(())
+}
+
+#[test]
+fn a_link_that_is_not_to_be_kept_is_not_handed_out(rt: HostRuntime) -> Result<(), Fail> {
+    let mut waiting = Waiting::new(&rt)?;
+    let listener = listen(&rt)?;
+    let mut connector = connector(&rt, listener.local_addr()?, &waiting)?;
+    let (near, mut far) = connect(&rt, &listener, &mut connector)?;
+    connector.release(peer(), near, false);
+    assert_eq!(rt; read_four(&mut waiting, &mut far, ROUNDS)?.0, Got::End);
+    assert!(rt; !reuses(&mut connector, peer())?);
+    Ok(())
+}
+
+#[test]
+fn a_link_that_the_peer_closed_is_not_handed_out(rt: HostRuntime) -> Result<(), Fail> {
+    let mut waiting = Waiting::new(&rt)?;
+    let listener = listen(&rt)?;
+    let mut connector = connector(&rt, listener.local_addr()?, &waiting)?;
+    let (older, mut standing) = connect(&rt, &listener, &mut connector)?;
+    let (near, far) = connect(&rt, &listener, &mut connector)?;
+    connector.release(peer(), older, true);
+    connector.release(peer(), near, true);
+    drop(far);
+    thread::sleep(&rt, Duration::from_millis(20));
+    // The one that was kept before it stands.
+    let (mut next, reused) = connector.get(&peer()).ok().ok_or("refused")?;
+    assert!(rt; reused);
+    assert_eq!(rt; next.write(b"ping"), Put::Took(4));
+    let ping = read_four(&mut waiting, &mut standing, ROUNDS)?;
+    assert_eq!(rt; ping, (Got::Bytes(4), *b"ping"));
+    assert!(rt; !reuses(&mut connector, peer())?);
+    Ok(())
+}
+
+#[test]
+fn a_link_on_which_bytes_came_is_not_handed_out(rt: HostRuntime) -> Result<(), Fail> {
+    let mut waiting = Waiting::new(&rt)?;
+    let listener = listen(&rt)?;
+    let mut connector = connector(&rt, listener.local_addr()?, &waiting)?;
+    let (near, mut far) = connect(&rt, &listener, &mut connector)?;
+    connector.release(peer(), near, true);
+    assert_eq!(rt; far.write(b"more"), Put::Took(4));
+    thread::sleep(&rt, Duration::from_millis(20));
+    assert!(rt; !reuses(&mut connector, peer())?);
+    // It was closed, with its bytes unread.
+    let got = read_four(&mut waiting, &mut far, ROUNDS)?.0;
+    assert!(rt; got == Got::End || got == Got::Failed(UNREAD));
+    Ok(())
+}
+
+#[test]
+fn of_too_many_kept_links_the_oldest_is_closed(rt: HostRuntime) -> Result<(), Fail> {
+    let mut waiting = Waiting::new(&rt)?;
+    let listener = listen(&rt)?;
+    let mut connector = connector(&rt, listener.local_addr()?, &waiting)?;
+    let (oldest, mut closed) = connect(&rt, &listener, &mut connector)?;
+    let mut near = Vec::new(rt.alloc());
+    let mut far = Vec::new(rt.alloc());
+    for _ in 0..MOST_IDLE {
+        let (one, other) = connect(&rt, &listener, &mut connector)?;
+        near.push(one)?;
+        far.push(other)?;
+    }
+    connector.release(peer(), oldest, true);
+    for link in near {
+        assert_eq!(rt; read_four(&mut waiting, &mut closed, 1)?.0, Got::NotReady);
+        connector.release(peer(), link, true);
+    }
+    assert_eq!(rt; read_four(&mut waiting, &mut closed, ROUNDS)?.0, Got::End);
+    // The others are handed out from the last one on.
+    while let Some(mut other) = far.pop() {
+        let (mut link, reused) = connector.get(&peer()).ok().ok_or("refused")?;
+        assert!(rt; reused);
+        assert_eq!(rt; link.write(b"ping"), Put::Took(4));
+        let ping = read_four(&mut waiting, &mut other, ROUNDS)?;
+        assert_eq!(rt; ping, (Got::Bytes(4), *b"ping"));
+    }
+    assert!(rt; !reuses(&mut connector, peer())?);
+    Ok(())
+}
+
+#[test]
+fn a_kept_link_is_told_of(rt: HostRuntime) -> Result<(), Fail> {
+    let mut waiting = Waiting::new(&rt)?;
+    let listener = listen(&rt)?;
+    let mut connector = connector(&rt, listener.local_addr()?, &waiting)?;
+    let (near, mut far) = connect(&rt, &listener, &mut connector)?;
+    connector.release(peer(), near, true);
+    let (mut near, reused) = connector.get(&peer()).ok().ok_or("refused")?;
+    assert!(rt; reused);
+    // It is still waited for, and does not ask before it is told.
+    assert!(rt; is_told_apart(&rt, &mut near, &mut far));
+    waiting.wait(1000)?;
+    assert_eq!(rt; near.read(&mut [0; 4]), Got::Bytes(4));
     Ok(())
 }
 

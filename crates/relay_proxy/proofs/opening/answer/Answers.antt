@@ -14,7 +14,7 @@ use Rattle.relay_proxy.specs.Tries.{refusals_in}
 use Rattle.relay_proxy.specs.Turn.{Advances}
 use Rattle.relay_proxy.specs.declared.machine.Phase.TheVariants as phase
 use Rattle.relay_proxy.specs.declared.outcome.Outcome.TheVariants as outcome
-use Rattle.relay_proxy.proofs.CallLemmas.{logged_same, none_called, one_called, opening_stands}
+use Rattle.relay_proxy.proofs.CallLemmas.{logged_same, none_called, one_called}
 use Rattle.relay_proxy.proofs.LastCalls.{counted_still, opening_ends, owing_log, owing_on}
 use Rattle.relay_proxy.proofs.ClosingSteps.{answered_by, queued_by}
 use Rattle.relay_proxy.proofs.HookSteps.{final_fails, final_station}
@@ -34,8 +34,7 @@ returns-in-Ok-clause-run g c = λ s p w o run.
     (still_open s (log_of c.args.calls.now) o.unended) run in
     let stops : IsStoppedFor (log_of c.args.calls.now) c.args.error = record {
       order = subst (λ (a : Station). Accepts station.accepted (log_of c.args.calls.now) a) here
-          (opening_stands _ (g.SV.ProxyHttp.mark_of c.args.app.now) c.args.calls.now c.args.context
-          c.args.session.value c.args.tries o).order;
+          o.order;
       fails = final_fails c.args.calls.now.at (log_of c.args.calls.now) c.args.error c.requires
           o.named;
     } in

@@ -8,7 +8,7 @@ use Rattle.relay_proxy.specs.declared.calls.Calls.{Calls}
 use Rattle.relay_proxy.specs.declared.owed.Owed.TheVariants as owing
 use Rattle.relay_proxy.proofs.LastCalls.{counted_still, owing_log, owing_on}
 use Rattle.relay_proxy.proofs.HookSteps.{answered, answered_owing, counts_called, goes_connecting, known_at, memory_called, memory_logged, opening_on, purged, purged_owing, refusals, unended, untreated}
-use Rattle.relay_proxy.proofs.OpenSteps.{called_tries, hooks_leave, hooks_lost, opened_on}
+use Rattle.relay_proxy.proofs.OpenSteps.{called_tries, hooks_leave, hooks_lost, none_tried, opened_on}
 use Rattle.relay_proxy.proofs.opening.open.Goals as goal
 
 -- it goes on
@@ -54,7 +54,8 @@ returns-in-Answered-clause-run g c = λ s p w o run.
     (untreated _ (g.SV.ProxyHttp.mark_of c.args.app.now) c.args.calls.now c.call_next.new.calls
     c.args.context c.call_next.new.context c.args.session.value c.call_next.new.client
     (rw c.deref_mut.ensures.value at c.in-Answered.ensures.turns) o.untreated)
-    (o.untried done.before) run)
+    (none_tried (opened_to s (log_of c.args.calls.now)) c.args.tries run.holds.are_tries
+    (o.untried done.before)) run)
 
 pub returns-in-Answered-clause-calls : goal.returns-in-Answered-clause-calls
 returns-in-Answered-clause-calls g c = λ o.
