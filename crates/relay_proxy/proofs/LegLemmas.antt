@@ -210,8 +210,8 @@ module _ {L C : Type 0} (state : L → LinkState) (start_at : L → LinkStart) (
         reused = hands.reused ∙ sym r.leased.reused
             ∙ ap (λ (l : L). (start_at l).reused) (sym hands.is_link);
         kept = hands.record_kept ∙ sym hands.kept;
+        unfaulted = hands.unfaulted;
       };
-      unfaulted = hands.unfaulted;
       error = hands.error;
       fails = subst (λ (k : Bool). FailsAgain (opened_to s r.before) r.passed w.client
           (state entry.link) (start_at entry.link) k r.error) (sym hands.kept)

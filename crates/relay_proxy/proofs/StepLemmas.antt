@@ -90,6 +90,7 @@ module _ {L : Type 0} (state : L → LinkState) (start_at : L → LinkStart) whe
       peer = leased.recorded ∙ ap (λ (x : Peer). Some x) (sym hands.recorded);
       reused = rw hands.is_link (hands.reused ∙ sym leased.reused);
       kept = hands.record_kept ∙ sym hands.kept;
+      unfaulted = hands.unfaulted;
     };
     error = own_error outcome hands.attempt.error hands.error;
     ends = rw (hands.is_link, hands.kept, hands.error) ends;
@@ -112,6 +113,7 @@ module _ {L : Type 0} (state : L → LinkState) (start_at : L → LinkStart) whe
       peer = leased.recorded ∙ ap (λ (x : Peer). Some x) (sym hands.recorded);
       reused = rw hands.is_link (hands.reused ∙ sym leased.reused);
       kept = hands.record_kept ∙ sym hands.kept;
+      unfaulted = hands.unfaulted;
     };
     error = hands.error;
   }
