@@ -1195,7 +1195,7 @@ module _ {L C : Type 0} (state : L → LinkState) (start_at : L → LinkStart) w
       → Ends state start_at s p w own before after phase ending
   end_of s p [] w ReadHead before after ending does run =
       unlinked_end s p w ReadHead [] before after ending does run run.holds.unsent
-      (inl (refl, inl run.holds.written))
+      (inl ((refl, run.holds.untried.0), inl run.holds.written))
       (λ h. inl (subst (λ (xs : List ℕ). IsOpen xs) run.holds.whole h.0, h.1)) refl refl
       (λ n asked. asked) (λ tasks ends counted. (counted.0, omega (arith, counted.1)))
   end_of s p [] w (Connect context session tries) before after ending does run =
