@@ -19,7 +19,7 @@ use Rattle.relay_proxy.specs.Passed.{World, Start, origin_of, IsUnsent}
 use Rattle.relay_proxy.specs.Endings.{error_of, IsErrorOf, EndsLinked, EndsUnlinked, AttemptsUnfinished, AttemptsUnlinked, IsHalfRefused, EndsReturned, EndsWith}
 use Rattle.relay_proxy.specs.Owed.{IsGivenBack, IsAnswering, IsHalfGiven}
 use Rattle.relay_proxy.specs.Taken.{Takes, offers_for, offers_before, offers_of_turn}
-use Rattle.relay_proxy.specs.Legs.{Leg, RepeatsOn, rebased}
+use Rattle.relay_proxy.specs.Legs.{RepeatsOn, rebased}
 use Rattle.relay_proxy.specs.Phases.{IsLeased, IsFailing, IsGoing, IsRelaying, RunSoFar}
 use Rattle.relay_proxy.specs.Refusals.{faults_for, faults_told, attempts_in, faults_before, faults_of_turn}
 use Rattle.relay_proxy.specs.Tries.{tries_in}

@@ -1,6 +1,6 @@
 -- The attempts of a request that had a link, failed, and were tried again: what passed in each, and
 -- where the next one begins (RFC 9110, section 9.2.2).
-use Rattle.std.specs.Prelude.{◌≡◌, ◌+◌, ℕ, Bool, true, false, List, [], ◌∷◌, ◌++◌, drop, length, map, None, Some, Ok, Err}
+use Rattle.std.specs.Prelude.{◌≡◌, ◌+◌, ℕ, Bool, false, List, [], ◌∷◌, ◌++◌, drop, length, map, Some, Ok, Err}
 use Rattle.std.specs.Global.{Box}
 use Rattle.relay_tasks.specs.Head.{RequestHead}
 use Rattle.relay_tasks.specs.declared.Error.{Error}
