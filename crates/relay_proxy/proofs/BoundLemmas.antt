@@ -150,8 +150,10 @@ module _ {L C : Type 0} (state : L → LinkState) (start_at : L → LinkStart) w
       → PhaseCounts state start_at tasks ends s client ahead own next
   open_counts tasks ends s client ahead own ReadHead shut counts = counts
   open_counts tasks ends s client ahead own (Connect context session tries) shut counts = counts
-  open_counts tasks ends s client ahead own (Unlinked context session attempts e) shut counts = counts
-  open_counts tasks ends s client ahead own (Prepare context session link lease) shut counts = counts
+  open_counts tasks ends s client ahead own (Unlinked context session attempts e) shut counts =
+      counts
+  open_counts tasks ends s client ahead own (Prepare context session link lease) shut counts =
+      counts
   open_counts tasks ends s client ahead own (Relay a) shut counts = counts
   open_counts tasks ends s client ahead own (Broken context session link lease keep e) shut counts =
       counts
@@ -202,7 +204,8 @@ module _ {L C : Type 0} (state : L → LinkState) (start_at : L → LinkStart) w
   head_bounds s p w (Relay a) work tasks ends run counts had = absurd counts
   head_bounds s p w (Broken context session link lease keep e) work tasks ends run counts had =
       absurd counts
-  head_bounds s p w (Again context session link lease keep e) work tasks ends run counts had = absurd counts
+  head_bounds s p w (Again context session link lease keep e) work tasks ends run counts had =
+      absurd counts
   head_bounds s p w (Fail link lease keep session e) work tasks ends run counts had = absurd counts
   head_bounds s p w (Close link lease keep outcome) work tasks ends run counts had = absurd counts
   head_bounds s p w (Answer session owed attempts) work tasks ends run counts had = record {
@@ -242,7 +245,8 @@ module _ {L C : Type 0} (state : L → LinkState) (start_at : L → LinkStart) w
     omega (arith, counts.1, as_many counts.2, had.1),
   )
   link_bounds s p w (Relay a) work before tasks ends run counts had = absurd counts
-  link_bounds s p w (Again context session link lease keep e) work before tasks ends run counts had =
+  link_bounds s p w (Again context session link lease keep e) work before tasks ends run counts had
+      =
       absurd counts
   link_bounds s p w (Fail link lease keep session e) work before tasks ends run counts had =
       absurd counts
@@ -303,7 +307,8 @@ module _ {L C : Type 0} (state : L → LinkState) (start_at : L → LinkStart) w
     tasks_are = omega (arith, counts.0, had.0);
     ends_are = omega (arith, counts.1, had.1, as_many counts.2);
   }
-  send_bounds s p w (Again context session link lease keep e) work before tasks ends run counts had =
+  send_bounds s p w (Again context session link lease keep e) work before tasks ends run counts had
+      =
       absurd counts
   send_bounds s p w (Fail link lease keep session e) work before tasks ends run counts had =
       absurd counts
@@ -344,9 +349,11 @@ module _ {L C : Type 0} (state : L → LinkState) (start_at : L → LinkStart) w
   call_bounds s p w (Prepare context session link lease) work before tasks ends run counts had =
       absurd counts
   call_bounds s p w (Relay a) work before tasks ends run counts had = absurd counts
-  call_bounds s p w (Broken context session link lease keep e) work before tasks ends run counts had =
+  call_bounds s p w (Broken context session link lease keep e) work before tasks ends run counts had
+      =
       absurd counts
-  call_bounds s p w (Again context session link lease keep e) work before tasks ends run counts had =
+  call_bounds s p w (Again context session link lease keep e) work before tasks ends run counts had
+      =
       absurd counts
   call_bounds s p w (Fail link lease keep session e) work before tasks ends run counts had =
       absurd counts
@@ -379,7 +386,8 @@ module _ {L C : Type 0} (state : L → LinkState) (start_at : L → LinkStart) w
       (LinkGave state start_at link)
       → TurnedCounts state start_at (work.moved + tasks) (work.ended + ends) (called_to s those)
       client ahead own next
-  treat_bounds s these those client ahead own link lease ReadHead work tasks ends counts leaves had =
+  treat_bounds s these those client ahead own link lease ReadHead work tasks ends counts leaves had
+      =
       absurd counts
   treat_bounds s these those client ahead own link lease (Connect context session tries) work tasks
       ends counts leaves had = absurd counts
@@ -398,8 +406,8 @@ module _ {L C : Type 0} (state : L → LinkState) (start_at : L → LinkStart) w
         tasks_within = omega (arith, counts.0, had.tasks_within);
         ends_within = omega (arith, counts.1, had.ends_within, same_tries leaves.1);
       }
-  treat_bounds s these those client ahead own link lease (Again context session l by keep e) work tasks ends
-      counts leaves had = record {
+  treat_bounds s these those client ahead own link lease (Again context session l by keep e) work
+      tasks ends counts leaves had = record {
         came = had.came;
         got = had.got;
         client_gave = had.client_gave;
@@ -462,10 +470,10 @@ module _ {L C : Type 0} (state : L → LinkState) (start_at : L → LinkStart) w
       counts attempts is had = absurd counts
   answer_bounds s client client' ahead own (Relay a) work tasks ends same counts attempts is had =
       absurd counts
-  answer_bounds s client client' ahead own (Broken context session link lease keep e) work tasks ends
+  answer_bounds s client client' ahead own (Broken context session link lease keep e) work tasks
+      ends same counts attempts is had = absurd counts
+  answer_bounds s client client' ahead own (Again context session link lease keep e) work tasks ends
       same counts attempts is had = absurd counts
-  answer_bounds s client client' ahead own (Again context session link lease keep e) work tasks ends same
-      counts attempts is had = absurd counts
   answer_bounds s client client' ahead own (Fail link lease keep session e) work tasks ends same
       counts attempts is had = absurd counts
   answer_bounds s client client' ahead own (Close link lease keep outcome) work tasks ends same
@@ -720,18 +728,18 @@ module _ {L C : Type 0} (state : L → LinkState) (start_at : L → LinkStart) w
       absurd (true≢false (sym is))
   relay_turn_bounds s p w x own (Connect context session tries) next tasks ends a b is run turn
       had = absurd (true≢false (sym is))
-  relay_turn_bounds s p w x own (Unlinked context session attempts e) next tasks ends a b is run turn
-      had = absurd (true≢false (sym is))
+  relay_turn_bounds s p w x own (Unlinked context session attempts e) next tasks ends a b is run
+      turn had = absurd (true≢false (sym is))
   relay_turn_bounds s p w x own (Prepare context session link lease) next tasks ends a b is run turn
       had = absurd (true≢false (sym is))
   relay_turn_bounds s p w x [] (Relay k) next tasks ends a b is run turn had = turn had
   relay_turn_bounds s p w x (r ∷ own) (Relay k) next tasks ends a b is run turn had =
       absurd run.holds
-  relay_turn_bounds s p w x own (Broken context session link lease keep e) next tasks ends a b is run
-      turn had =
+  relay_turn_bounds s p w x own (Broken context session link lease keep e) next tasks ends a b is
+      run turn had =
       absurd (true≢false (sym is))
-  relay_turn_bounds s p w x own (Again context session link lease keep e) next tasks ends a b is run turn
-      had =
+  relay_turn_bounds s p w x own (Again context session link lease keep e) next tasks ends a b is run
+      turn had =
       absurd (true≢false (sym is))
   relay_turn_bounds s p w x own (Fail link lease keep session e) next tasks ends a b is run turn
       had =

@@ -988,13 +988,15 @@ module _ {C M K : Type 0} (allows : Standing → LogEntry → Type 0) (mark_of :
       → Gives (log_of calls) came (given_at calls.at came)
   phase_gives calls ReadHead came is so_far = limit_gives calls came is
   phase_gives calls (Connect context session tries) came is so_far = limit_gives calls came is
-  phase_gives calls (Unlinked context session attempts error) came is so_far = limit_gives calls came is
+  phase_gives calls (Unlinked context session attempts error) came is so_far =
+      limit_gives calls came is
   phase_gives calls (Prepare context session link lease) came is so_far =
       limit_gives calls came is
   phase_gives calls (Relay a) came is so_far = limit_gives calls came is
   phase_gives calls (Broken context session link lease keep error) came is so_far =
       limit_gives calls came is
-  phase_gives calls (Again context session link lease keep error) came is so_far = limit_gives calls came is
+  phase_gives calls (Again context session link lease keep error) came is so_far =
+      limit_gives calls came is
   phase_gives calls (Fail link lease keep session error) came is so_far = limit_gives calls came is
   phase_gives calls (Close link lease keep outcome) came is so_far =
       in_come calls came outcome is so_far
@@ -1173,7 +1175,8 @@ undone_limit (Prepare context session link lease) here came is undone = limited 
 undone_limit (Relay a) here came is undone = limited here came is
 undone_limit (Broken context session link lease keep error) here came is undone =
     limited here came is
-undone_limit (Again context session link lease keep error) here came is undone = limited here came is
+undone_limit (Again context session link lease keep error) here came is undone =
+    limited here came is
 undone_limit (Fail link lease keep session error) here came is undone = limited here came is
 undone_limit (Close link lease keep outcome) here came is undone = absurd (true≢false undone)
 undone_limit (Answer session owed attempts) here came is undone = limited here came is
@@ -1227,16 +1230,16 @@ module _ {L C : Type 0} (state : L → LinkState) (start_at : L → LinkStart) w
       absurd (true≢false (sym done))
   done_gives tasks ends s client ahead own (Connect context session tries) here came outcome counts
       is given done over = absurd (true≢false (sym done))
-  done_gives tasks ends s client ahead own (Unlinked context session attempts error) here came outcome counts
-      is given done over = absurd (true≢false (sym done))
+  done_gives tasks ends s client ahead own (Unlinked context session attempts error) here came
+      outcome counts is given done over = absurd (true≢false (sym done))
   done_gives tasks ends s client ahead own (Prepare context session link lease) here came outcome
       counts is given done over = absurd (true≢false (sym done))
   done_gives tasks ends s client ahead own (Relay a) here came outcome counts is given done over =
       absurd (true≢false (sym done))
   done_gives tasks ends s client ahead own (Broken context session link lease keep e) here came
       outcome counts is given done over = absurd (true≢false (sym done))
-  done_gives tasks ends s client ahead own (Again context session link lease keep e) here came outcome counts
-      is given done over = absurd (true≢false (sym done))
+  done_gives tasks ends s client ahead own (Again context session link lease keep e) here came
+      outcome counts is given done over = absurd (true≢false (sym done))
   done_gives tasks ends s client ahead own (Fail link lease keep session e) here came outcome counts
       is given done over = absurd (true≢false (sym done))
   done_gives tasks ends s client ahead own (Close link lease keep end) here came outcome counts is

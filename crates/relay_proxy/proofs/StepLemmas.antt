@@ -249,7 +249,8 @@ module _ {L C : Type 0} (state : L → LinkState) (start_at : L → LinkStart) w
   settle_run s p w (Answer session owed attempts) settled before after does run =
       stays s p w (Answer session owed attempts) settled before after does.0 does.1 refl run
   settle_run s p w (Broken context session link lease keep e) settled before after does run =
-      stays s p w (Broken context session link lease keep e) settled before after does.0 does.1 refl run
+      stays s p w (Broken context session link lease keep e) settled before after does.0 does.1 refl
+      run
   settle_run s p w (Again context session link lease keep e) settled before after does run =
       absurd run.holds
   settle_run s p w (Fail link lease keep session e) settled before after does run = record {
@@ -284,7 +285,8 @@ module _ {L C : Type 0} (state : L → LinkState) (start_at : L → LinkStart) w
   settle_run s p w (Connect context session tries) settled before after does run =
       stays s p w (Connect context session tries) settled before after does.0 does.1 refl run
   settle_run s p w (Unlinked context session attempts error) settled before after does run =
-      stays s p w (Unlinked context session attempts error) settled before after does.0 does.1 refl run
+      stays s p w (Unlinked context session attempts error) settled before after does.0 does.1 refl
+      run
   settle_run s p w (Prepare context session link lease) settled before after does run =
       stays s p w (Prepare context session link lease) settled before after does.0 does.1 refl run
   settle_run s p w (Relay a) settled before after does run =
@@ -361,7 +363,8 @@ module _ {L C : Type 0} (state : L → LinkState) (start_at : L → LinkStart) w
       → (settled ≡ next) ⊎ ((OwesAnswer next × OwesAnswer settled) ⊎ GoesAgain next settled)
   settles_live ReadHead settled before after does going = inl does.0
   settles_live (Connect context session tries) settled before after does going = inl does.0
-  settles_live (Unlinked context session attempts error) settled before after does going = inl does.0
+  settles_live (Unlinked context session attempts error) settled before after does going =
+      inl does.0
   settles_live (Prepare context session link lease) settled before after does going = inl does.0
   settles_live (Relay a) settled before after does going = inl does.0
   settles_live (Broken context session link lease keep e) settled before after does going =
@@ -422,7 +425,8 @@ module _ {L C : Type 0} (state : L → LinkState) (start_at : L → LinkStart) w
   owes_moved w x (Unlinked context session attempts error) next settled owes owes' moved = owes'
   owes_moved w x (Prepare context session link lease) next settled owes owes' moved = inr owes'
   owes_moved w x (Relay a) next settled owes owes' moved = inr owes'
-  owes_moved w x (Broken context session link lease keep e) next settled owes owes' moved = inl owes'
+  owes_moved w x (Broken context session link lease keep e) next settled owes owes' moved =
+      inl owes'
   owes_moved w x (Again context session link lease keep e) next settled owes owes' moved =
       absurd (none next owes moved)
     where
@@ -694,8 +698,8 @@ module _ {L C : Type 0} (state : L → LinkState) (start_at : L → LinkStart) w
       x.ahead own next)
       → GoesOn state start_at s s' p x own before after told_before told_after had has client ahead
       was now (Answer session owes attempts) settled
-  answer_step s s' p own x session owes attempts next settled before mid after told_before told_after
-      had has turn kept does told takes client ahead was now extra adds uses bounds =
+  answer_step s s' p own x session owes attempts next settled before mid after told_before
+      told_after had has turn kept does told takes client ahead was now extra adds uses bounds =
       let stayed = settles_same next settled mid after does
       (unlinked_open state start_at next turn.unlinked) in
       let none = unlinked_items state start_at next turn.unlinked in
@@ -766,8 +770,8 @@ module _ {L C : Type 0} (state : L → LinkState) (start_at : L → LinkStart) w
       → PhaseCounts {C = C} state start_at tasks ends s client ahead [] phase
       → TurnedCounts {C = C} state start_at (extra.moved + tasks) (extra.ended + ends) s' x.client
       x.ahead [] next)
-      → BeginsAgain state start_at s s' x [] before after told_before told_after had has client ahead
-      was now phase settled
+      → BeginsAgain state start_at s s' x [] before after told_before told_after had has client
+      ahead was now phase settled
   again_on s s' x phase next settled before mid after told_before told_after had has live r kept
       does told takes carries tells client ahead was now extra adds uses bounds =
       let back = (subst (λ (k : Phase L C). Settles k mid after settled) r.is does).2 in
@@ -775,6 +779,8 @@ module _ {L C : Type 0} (state : L → LinkState) (start_at : L → LinkStart) w
       let is : settled ≡ Connect r.context r.session attempts =
       (subst (λ (k : Phase L C). Settles k mid after settled) r.is does).1 in
       let leg = leg_of state start_at s' x next r back.entry attempts back.hands in
+      let long : length attempts ≡ 1 + length (tries_in r.lease) =
+      length_behind (tries_in r.lease) attempts back.hands.attempt back.hands.attempts_are in
       record {
         going = live;
         none = refl;
@@ -827,11 +833,10 @@ module _ {L C : Type 0} (state : L → LinkState) (start_at : L → LinkStart) w
             (subst (λ (k : Phase L C). TurnedCounts state start_at (extra.moved + tasks)
             (extra.ended + ends) s' x.client x.ahead [] k) r.is (bounds tasks ends counted));
         counts = subst (λ (k : Phase L C). PhaseCounts state start_at 0
-            (2 + length (tries_in r.lease)) (rebased s' leg) x.client x.ahead [] k) (sym is)
-            (refl, omega (
-              arith,
-              length_behind (tries_in r.lease) attempts back.hands.attempt back.hands.attempts_are,
-            ));
+            (2 + length (tries_in r.lease)) (rebased s' leg) x.client x.ahead [] k) (sym is) (
+              refl,
+              omega (arith, long),
+            );
       }
 
   -- a step takes the run so far on
@@ -865,16 +870,19 @@ module _ {L C : Type 0} (state : L → LinkState) (start_at : L → LinkStart) w
       (turn run) kept does told takes (carries refl) (tells refl) c i j o m adds uses bounds)
   step_on s s' p [] w x (Connect context session tries) next settled did before mid after t u h k
       turn same rests kept does told takes carries tells run c i j o m adds uses bounds =
-      StepsOn.goes (live_on s s' p x (Connect context session tries) next settled before mid after t u h k refl
-      (turn run) kept does told takes (carries refl) (tells refl) c i j o m adds uses bounds)
-  step_on s s' p [] w x (Unlinked context session attempts error) next settled did before mid after t u h k
-      turn same rests kept does told takes carries tells run c i j o m adds uses bounds =
-      StepsOn.goes (live_on s s' p x (Unlinked context session attempts error) next settled before mid after t u h k refl
-      (turn run) kept does told takes (carries refl) (tells refl) c i j o m adds uses bounds)
-  step_on s s' p [] w x (Prepare context session link lease) next settled did before mid after t u h k
-      turn same rests kept does told takes carries tells run c i j o m adds uses bounds =
-      StepsOn.goes (live_on s s' p x (Prepare context session link lease) next settled before mid after t u h k refl
-      (turn run) kept does told takes (carries refl) (tells refl) c i j o m adds uses bounds)
+      StepsOn.goes (live_on s s' p x (Connect context session tries) next settled before mid after t
+      u h k refl (turn run) kept does told takes (carries refl) (tells refl) c i j o m adds uses
+      bounds)
+  step_on s s' p [] w x (Unlinked context session attempts error) next settled did before mid after
+      t u h k turn same rests kept does told takes carries tells run c i j o m adds uses bounds =
+      StepsOn.goes (live_on s s' p x (Unlinked context session attempts error) next settled before
+      mid after t u h k refl (turn run) kept does told takes (carries refl) (tells refl) c i j o m
+      adds uses bounds)
+  step_on s s' p [] w x (Prepare context session link lease) next settled did before mid after t u h
+      k turn same rests kept does told takes carries tells run c i j o m adds uses bounds =
+      StepsOn.goes (live_on s s' p x (Prepare context session link lease) next settled before mid
+      after t u h k refl (turn run) kept does told takes (carries refl) (tells refl) c i j o m adds
+      uses bounds)
   step_on s s' p [] w x (Relay a) next settled did before mid after t u h k
       turn same rests kept does told takes carries tells run c i j o m adds uses bounds =
       StepsOn.goes (live_on s s' p x (Relay a) next settled before mid after t u h k refl
@@ -894,57 +902,62 @@ module _ {L C : Type 0} (state : L → LinkState) (start_at : L → LinkStart) w
       absurd run.holds
   step_on s s' p [] w x (Fail link lease keep session e) next settled did before mid after t u h k
       turn same rests kept does told takes carries tells run c i j o m adds uses bounds =
-      StepsOn.goes (live_on s s' p x (Fail link lease keep session e) next settled before mid after t u h k refl
-      (turn run) kept does told takes (carries refl) (tells refl) c i j o m adds uses bounds)
+      StepsOn.goes (live_on s s' p x (Fail link lease keep session e) next settled before mid after
+      t u h k refl (turn run) kept does told takes (carries refl) (tells refl) c i j o m adds uses
+      bounds)
   step_on s s' p [] w x (Close link lease keep outcome) next settled did before mid after t u h k
       turn same rests kept does told takes carries tells run c i j o m adds uses bounds =
       subst (λ (r : Start). StepsOn {C = C} state start_at s r p x [] before after t u h k c i j o
       (Close link lease keep outcome) settled) (sym (same refl))
-      (StepsOn.goes (closed_on s p w x link lease keep outcome next settled did before mid after t u h k rests
-      kept does told takes run c i j o m adds uses))
+      (StepsOn.goes (closed_on s p w x link lease keep outcome next settled did before mid after t u
+      h k rests kept does told takes run c i j o m adds uses))
   step_on s s' p (r ∷ own) w x ReadHead next settled did before mid after t u
       h k turn same rests kept does told takes carries tells run c i j o m adds uses bounds =
       absurd run.holds
   step_on s s' p (r ∷ own) w x (Connect context session tries) next settled did before mid after t u
       h k turn same rests kept does told takes carries tells run c i j o m adds uses bounds =
       absurd run.holds
-  step_on s s' p (r ∷ own) w x (Unlinked context session attempts error) next settled did before mid after t u
-      h k turn same rests kept does told takes carries tells run c i j o m adds uses bounds =
+  step_on s s' p (r ∷ own) w x (Unlinked context session attempts error) next settled did before mid
+      after t u h k turn same rests kept does told takes carries tells run c i j o m adds uses
+      bounds =
       absurd run.holds
-  step_on s s' p (r ∷ own) w x (Prepare context session link lease) next settled did before mid after t u
-      h k turn same rests kept does told takes carries tells run c i j o m adds uses bounds =
+  step_on s s' p (r ∷ own) w x (Prepare context session link lease) next settled did before mid
+      after t u h k turn same rests kept does told takes carries tells run c i j o m adds uses
+      bounds =
       absurd run.holds
   step_on s s' p (r ∷ own) w x (Relay a) next settled did before mid after t u
       h k turn same rests kept does told takes carries tells run c i j o m adds uses bounds =
       absurd run.holds
-  step_on s s' p (r ∷ own) w x (Broken context session link lease keep e) next settled did before mid
-      after t u h k turn same rests kept does told takes carries tells run c i j o m adds uses bounds =
+  step_on s s' p (r ∷ own) w x (Broken context session link lease keep e) next settled did before
+      mid after t u h k turn same rests kept does told takes carries tells run c i j o m adds uses
+      bounds =
       absurd run.holds
-  step_on s s' p (r ∷ own) w x (Again context session link lease keep e) next settled did before mid after t u
-      h k turn same rests kept does told takes carries tells run c i j o m adds uses bounds =
+  step_on s s' p (r ∷ own) w x (Again context session link lease keep e) next settled did before mid
+      after t u h k turn same rests kept does told takes carries tells run c i j o m adds uses
+      bounds =
       absurd run.holds
-  step_on s s' p (r ∷ own) w x (Fail link lease keep session e) next settled did before mid after t u
-      h k turn same rests kept does told takes carries tells run c i j o m adds uses bounds =
+  step_on s s' p (r ∷ own) w x (Fail link lease keep session e) next settled did before mid after t
+      u h k turn same rests kept does told takes carries tells run c i j o m adds uses bounds =
       absurd run.holds
   step_on s s' p (r ∷ own) w x (Close link lease keep outcome) next settled did before mid after t u
       h k turn same rests kept does told takes carries tells run c i j o m adds uses bounds =
       absurd run.holds
   step_on s s' p own w x (Answer session owes attempts) next settled did before mid after t u h k
       turn same rests kept does told takes carries tells run c i j o m adds uses bounds =
-      StepsOn.goes (answer_step s s' p own x session owes attempts next settled before mid after t u h k (turn run)
-      kept does told takes c i j o m adds uses bounds)
+      StepsOn.goes (answer_step s s' p own x session owes attempts next settled before mid after t u
+      h k (turn run) kept does told takes c i j o m adds uses bounds)
   step_on s s' p own w x (Ended outcome attempts) next settled did before mid after t u h k
       turn same rests kept does told takes carries tells run c i j o m adds uses bounds =
       let back : (r : Start) → r ≡ s → ((tasks ends : ℕ)
       → PhaseCounts {C = C} state start_at tasks ends s c i own (Ended outcome attempts)
-      → TurnedCounts {C = C} state start_at (m.moved + tasks) (m.ended + ends) r x.client x.ahead own
-      next)
+      → TurnedCounts {C = C} state start_at (m.moved + tasks) (m.ended + ends) r x.client x.ahead
+      own next)
       → StepsOn {C = C} state start_at s r p x own before after t u h k c i j o
       (Ended outcome attempts) settled =
       λ r is counts. subst (λ (q : Start). StepsOn {C = C} state start_at s q p x own before after t
       u h k c i j o (Ended outcome attempts) settled) (sym is)
-      (StepsOn.goes (ended_on s p own w x outcome attempts next settled did before mid after t u h k rests kept
-      does told takes run c i j o m adds uses
+      (StepsOn.goes (ended_on s p own w x outcome attempts next settled did before mid after t u h k
+      rests kept does told takes run c i j o m adds uses
       (λ tasks ends had. subst (λ (q : Start). TurnedCounts {C = C} state start_at (m.moved + tasks)
       (m.ended + ends) q x.client x.ahead own next) is (counts tasks ends had)))) in
       back s' (same refl) bounds
@@ -1249,8 +1262,8 @@ module _ {L C : Type 0} (state : L → LinkState) (start_at : L → LinkStart) w
       does.0 does.1 run run.holds.0 run.holds.1 (λ h. absurd h) refl refl (λ n asked. asked)
       (λ tasks ends counted. absurd counted)
   end_of s p [] w (Broken context session link lease keep e) before after ending does run =
-      linked_end s p w (Broken context session link lease keep e) link lease false before after ending
-      TurnLimit does.limit does.back run run.holds.0
+      linked_end s p w (Broken context session link lease keep e) link lease false before after
+      ending TurnLimit does.limit does.back run run.holds.0
       (broken_part s p w (state link) (start_at link) session.value lease keep e run.holds.1, refl)
       (λ h. absurd h) refl refl (λ n asked. asked)
       (λ tasks ends counted. more_room tasks ends (1 + length (tries_in lease)) s w.client

@@ -139,11 +139,13 @@ module _ {L C : Type 0} (state : L → LinkState) (start_at : L → LinkStart) w
   relaying_rests w x ReadHead next did is = absurd (true≢false (sym is))
   relaying_rests w x (Broken context session link lease keep error) next did is =
       absurd (true≢false (sym is))
-  relaying_rests w x (Again context session link lease keep error) next did is = absurd (true≢false (sym is))
+  relaying_rests w x (Again context session link lease keep error) next did is =
+      absurd (true≢false (sym is))
   relaying_rests w x (Fail link lease keep session error) next did is = absurd (true≢false (sym is))
   relaying_rests w x (Answer session owed attempts) next did is = absurd (true≢false (sym is))
   relaying_rests w x (Connect context session tries) next did is = absurd (true≢false (sym is))
-  relaying_rests w x (Unlinked context session attempts error) next did is = absurd (true≢false (sym is))
+  relaying_rests w x (Unlinked context session attempts error) next did is =
+      absurd (true≢false (sym is))
   relaying_rests w x (Prepare context session link lease) next did is = absurd (true≢false (sym is))
   relaying_rests w x (Relay a) next did is = tt
   relaying_rests w x (Close link lease keep outcome) next did is = absurd (true≢false (sym is))
@@ -155,11 +157,13 @@ module _ {L C : Type 0} (state : L → LinkState) (start_at : L → LinkStart) w
   relaying_unrefused ReadHead next is = absurd (true≢false (sym is))
   relaying_unrefused (Broken context session link lease keep error) next is =
       absurd (true≢false (sym is))
-  relaying_unrefused (Again context session link lease keep error) next is = absurd (true≢false (sym is))
+  relaying_unrefused (Again context session link lease keep error) next is =
+      absurd (true≢false (sym is))
   relaying_unrefused (Fail link lease keep session error) next is = absurd (true≢false (sym is))
   relaying_unrefused (Answer session owed attempts) next is = absurd (true≢false (sym is))
   relaying_unrefused (Connect context session tries) next is = absurd (true≢false (sym is))
-  relaying_unrefused (Unlinked context session attempts error) next is = absurd (true≢false (sym is))
+  relaying_unrefused (Unlinked context session attempts error) next is =
+      absurd (true≢false (sym is))
   relaying_unrefused (Prepare context session link lease) next is = absurd (true≢false (sym is))
   relaying_unrefused (Relay a) next is = refl
   relaying_unrefused (Close link lease keep outcome) next is = absurd (true≢false (sym is))
@@ -180,7 +184,8 @@ module _ {L C : Type 0} (state : L → LinkState) (start_at : L → LinkStart) w
   relaying_takes ReadHead next is = absurd (true≢false (sym is))
   relaying_takes (Broken context session link lease keep error) next is =
       absurd (true≢false (sym is))
-  relaying_takes (Again context session link lease keep error) next is = absurd (true≢false (sym is))
+  relaying_takes (Again context session link lease keep error) next is =
+      absurd (true≢false (sym is))
   relaying_takes (Fail link lease keep session error) next is = absurd (true≢false (sym is))
   relaying_takes (Answer session owed attempts) next is = absurd (true≢false (sym is))
   relaying_takes (Connect context session tries) next is = absurd (true≢false (sym is))
@@ -243,11 +248,11 @@ module _ {L C : Type 0} (state : L → LinkState) (start_at : L → LinkStart) w
       → TurnCounts state start_at n w.client client' used own next
   relaying_counts s p own w client' n used ReadHead next is run had counts =
       absurd (true≢false (sym is))
-  relaying_counts s p own w client' n used (Broken context session link lease keep error) next is run
-      had counts =
+  relaying_counts s p own w client' n used (Broken context session link lease keep error) next is
+      run had counts =
       absurd (true≢false (sym is))
-  relaying_counts s p own w client' n used (Again context session link lease keep error) next is run had
-      counts =
+  relaying_counts s p own w client' n used (Again context session link lease keep error) next is run
+      had counts =
       absurd (true≢false (sym is))
   relaying_counts s p own w client' n used (Fail link lease keep session error) next is run had
       counts =
@@ -256,9 +261,11 @@ module _ {L C : Type 0} (state : L → LinkState) (start_at : L → LinkStart) w
       absurd (true≢false (sym is))
   relaying_counts s p own w client' n used (Connect context session tries) next is run had counts =
       absurd (true≢false (sym is))
-  relaying_counts s p own w client' n used (Unlinked context session attempts error) next is run had counts =
+  relaying_counts s p own w client' n used (Unlinked context session attempts error) next is run had
+      counts =
       absurd (true≢false (sym is))
-  relaying_counts s p own w client' n used (Prepare context session link lease) next is run had counts =
+  relaying_counts s p own w client' n used (Prepare context session link lease) next is run had
+      counts =
       absurd (true≢false (sym is))
   relaying_counts s p [] w client' n used (Relay a) next is run had counts =
       counts (origin_of s run.holds.head run.holds.sent a.value.lease.reused) p a n refl
@@ -412,11 +419,13 @@ pub relaying_works : {L C : Type 0} (phase : Phase L C) (did : RunStep) (work : 
 relaying_works ReadHead did work is does = absurd (true≢false (sym is))
 relaying_works (Broken context session link lease keep error) did work is does =
     absurd (true≢false (sym is))
-relaying_works (Again context session link lease keep error) did work is does = absurd (true≢false (sym is))
+relaying_works (Again context session link lease keep error) did work is does =
+    absurd (true≢false (sym is))
 relaying_works (Fail link lease keep session error) did work is does = absurd (true≢false (sym is))
 relaying_works (Answer session owed attempts) did work is does = absurd (true≢false (sym is))
 relaying_works (Connect context session tries) did work is does = absurd (true≢false (sym is))
-relaying_works (Unlinked context session attempts error) did work is does = absurd (true≢false (sym is))
+relaying_works (Unlinked context session attempts error) did work is does =
+    absurd (true≢false (sym is))
 relaying_works (Prepare context session link lease) did work is does = absurd (true≢false (sym is))
 relaying_works (Relay a) did work is does = does
 relaying_works (Close link lease keep outcome) did work is does = absurd (true≢false (sym is))

@@ -297,8 +297,9 @@ module _ {L C : Type 0} (state : L → LinkState) (start_at : L → LinkStart) w
         offered = subst (λ (os : List Offer). Takes h (taken_by start_at under.legs
             ++ drop tried os) l) steps.offered.are
             (subst (λ (os : List Offer). Takes h os l)
-            (sym (taken_on (taken_by start_at under.legs) tried had steps.offered.taken under.tells))
-            (takes_twice h k l (taken_by start_at under.legs ++ drop tried had) steps.offered.taken
+            (sym (taken_on (taken_by start_at under.legs) tried had steps.offered.taken
+            under.tells)) (takes_twice h k l (taken_by start_at under.legs ++ drop tried had)
+            steps.offered.taken
             under.offered steps.offered.takes));
         used = under.used;
         legs_used = under.legs_used;
@@ -406,7 +407,8 @@ module _ {L C : Type 0} (state : L → LinkState) (start_at : L → LinkStart) w
             ++ drop tried (offers_before start_at rs m.phase)) k) steps.none under.offered)
             steps.takes));
         used = under.used + (counts.of_own + under.uses.upstream);
-        legs_used = use_more state start_at under.used (counts.of_own + under.uses.upstream) legs leg
+        legs_used =
+            use_more state start_at under.used (counts.of_own + under.uses.upstream) legs leg
             under.legs_used counts.own_rose;
         uses = used_again first w.client x.client under.used under.own m.phase n.phase m.work.used
             n.work.used leg.back.link under.uses counts steps.unused;
@@ -450,7 +452,8 @@ module _ {L C : Type 0} (state : L → LinkState) (start_at : L → LinkStart) w
       → n.turns ≡ taken → IsUnderWay s new x before after t v h l first n taken
   steps_under s old new w x before now after t u v h k l first m n turns taken under front
       (StepsOn.goes goes) is =
-      goes_under s old new w x before now after t u v h k l first m n turns taken under front goes is
+      goes_under s old new w x before now after t u v h k l first m n turns taken under front goes
+      is
   steps_under s old new w x before now after t u v h k l first m n turns taken under front
       (StepsOn.again again) is =
       again_under s old new w x before now after t u v h k l first m n turns taken under front again
@@ -492,8 +495,8 @@ module _ {L C : Type 0} (state : L → LinkState) (start_at : L → LinkStart) w
       (t u v : Option (List Fault)) (h k l : Option (List Offer)) (first : LinkState)
       (m : Machine L C) {K : Type 0} (here : At K C) (turns most : ℕ) (processed : Processed)
       (under : IsUnderWay s log w before now t u h k first m turns)
-      (ends : ComesToEnd state start_at (called_to (behind s under.legs) log) under.passed x under.own
-      now after m.phase here processed)
+      (ends : ComesToEnd state start_at (called_to (behind s under.legs) log) under.passed x
+      under.own now after m.phase here processed)
       → Gives processed.history.log ends.came processed.outcome
       → v ≡ u → l ≡ k → processed.history.turns_taken ≡ m.turns → x.client ≡ w.client
       → x.ahead ≡ w.ahead
@@ -523,7 +526,8 @@ module _ {L C : Type 0} (state : L → LinkState) (start_at : L → LinkStart) w
             ∙ ap (λ (rs : List (Returned L)). more before rs)
             (append_assoc backs under.own ends.handed);
         came = ends.came;
-        ended = subst (λ (q : Start). IsEnded state start_at q under.passed x own attempts ends.came)
+        ended =
+            subst (λ (q : Start). IsEnded state start_at q under.passed x own attempts ends.came)
             (sym is) ends.ended;
         given = gives;
         refused = subst (λ (fs : List Fault). Gains t fs v) (sym ends.refused)
@@ -556,7 +560,8 @@ module _ {L C : Type 0} (state : L → LinkState) (start_at : L → LinkStart) w
         attempts = λ some. subst (λ (n : ℕ). length attempts ≤ n) (behind_most s under.legs)
             (at_most state start_at at under.passed x own attempts ends.came ends.ended.ends
             (subst (λ (n : ℕ). 1 ≤ n) (sym (behind_most s under.legs)) some));
-        exact = subst (λ (q : Start). IsExact state start_at q under.passed x own ends.came) (sym is)
+        exact =
+            subst (λ (q : Start). IsExact state start_at q under.passed x own ends.came) (sym is)
             (exact_of state start_at at under.passed x own attempts ends.came ends.ended);
         limit = λ ran. subst (λ (q : Start). (processed.history.turns_taken ≡ most)
             ⊎ IsQuiet state start_at q under.passed x own) (sym is) (limit ran);

@@ -164,9 +164,11 @@ module _ {L C : Type 0} (state : L → LinkState) (start_at : L → LinkStart) w
       inl (ap (λ (n : Phase L C). held_state state n) does.0 ∙ held)
   settled_stands (Relay a) settled before mid after link same does held =
       inl (ap (λ (n : Phase L C). held_state state n) does.0 ∙ held)
-  settled_stands (Broken context session l lease keep e) settled before mid after link same does held =
+  settled_stands (Broken context session l lease keep e) settled before mid after link same does
+      held =
       inl (ap (λ (n : Phase L C). held_state state n) does.0 ∙ held)
-  settled_stands (Again context session l lease keep e) settled before mid after link same does held =
+  settled_stands (Again context session l lease keep e) settled before mid after link same does held
+      =
       let is : state l ≡ link = cc in
       inr (
         does.2.entry,

@@ -198,8 +198,8 @@ module _ {L C : Type 0} (state : L → LinkState) (start_at : L → LinkStart) w
         → IsQuiet state start_at s p w (own ++ handed)
 
 -- a whole request: the attempts that failed over their links and were tried again, and then what
--- passed in the last one is told by the links, in order; the connector's lists gained the links that
--- were handed back, and the faults with which it refused one; and the outcome has its cause
+-- passed in the last one is told by the links, in order; the connector's lists gained the links
+-- that were handed back, and the faults with which it refused one; and the outcome has its cause
 pub record Processes {L : Type 0} (state : L → LinkState) (start_at : L → LinkStart)
     (s : Start) (w : World) (before after : Option (List (Returned L)))
     (told_before told_after : Option (List Fault)) (had has : Option (List Offer))

@@ -220,7 +220,8 @@ impl<SV: ProxyHttp, K: Connector, P: Purger> HttpProxy<SV, K, P> {
             ≤ K.out self.old.connector }
         // The run so far goes on, these links were handed back, and of what the connector has the
         // request took its link, or the one fault of which its attempt's error tells. What it
-        // counts of tasks and ends is bounded by the bytes that both links gave.
+        // counts of tasks and ends is bounded by the bytes that both links gave. Or an attempt that
+        // failed handed its link back, and the run begins anew with the next one behind it.
         ensures steps { (s : Start) (p : Passed) (own : List _)
             → s.most ≡ self.old.conf.max_retries
             → CallsSoFar (allowed_by (SV.allows self.old.inner) SV.Modules.allows)
@@ -361,7 +362,8 @@ impl<SV: ProxyHttp, K: Connector, P: Purger> HttpProxy<SV, K, P> {
             ≤ K.out self.old.connector }
         // The run so far goes on, these links were handed back, and of what the connector has the
         // request took its link, or the one fault of which its attempt's error tells. What it
-        // counts of tasks and ends is bounded by the bytes that both links gave.
+        // counts of tasks and ends is bounded by the bytes that both links gave. Or an attempt that
+        // failed handed its link back, and the run begins anew with the next one behind it.
         ensures steps { (s : Start) (p : Passed) (own : List _)
             → s.most ≡ self.old.conf.max_retries
             → CallsSoFar (allowed_by (SV.allows self.old.inner) SV.Modules.allows)

@@ -381,17 +381,20 @@ returns-in-Answer-clause-bounds g c =
 -- one whose link is to go back is settled before it is turned
 pub returns-in-Fail-clause-bounds : goal.returns-in-Fail-clause-bounds
 returns-in-Fail-clause-bounds g c =
-    rw (sym c.replace.ensures.value ∙ c.in-Fail.is) (λ s p own tasks ends most calls run had. absurd had)
+    rw (sym c.replace.ensures.value ∙ c.in-Fail.is) (λ s p own tasks ends most calls run had. absurd
+    had)
 
 -- the same where another attempt follows then
 pub returns-in-Again-clause-bounds : goal.returns-in-Again-clause-bounds
 returns-in-Again-clause-bounds g c =
-    rw (sym c.replace.ensures.value ∙ c.in-Again.is) (λ s p own tasks ends most calls run had. absurd had)
+    rw (sym c.replace.ensures.value ∙ c.in-Again.is) (λ s p own tasks ends most calls run had.
+    absurd had)
 
 -- and so is one that is to be closed
 pub returns-in-Close-clause-bounds : goal.returns-in-Close-clause-bounds
 returns-in-Close-clause-bounds g c =
-    rw (sym c.replace.ensures.value ∙ c.in-Close.is) (λ s p own tasks ends most calls run had. absurd had)
+    rw (sym c.replace.ensures.value ∙ c.in-Close.is) (λ s p own tasks ends most calls run had.
+    absurd had)
 
 -- one that has ended counts nothing
 pub returns-in-Ended-clause-bounds : goal.returns-in-Ended-clause-bounds
