@@ -19,7 +19,7 @@ use Rattle.relay_peer.specs.Body.{IsFrontOf}
 use Rattle.relay_session.specs.declared.session.HttpSession.{HttpSession}
 use Rattle.relay_session.specs.declared.writing.Outgoing.{Outgoing}
 use Rattle.relay_proxy.specs.Calls.{CallsSoFar, allowed_by, log_of}
-use Rattle.relay_proxy.specs.Endings.{AttemptsFailed, AttemptsUnlinked, EndsAhead, EndsLinked, EndsReturned, EndsUnlinked, EndsWith, FailsToConnect, IsFailedAttempt, IsGivenAhead, IsOwedUnlinked, IsRelayedEarly, IsRelayedWhole, IsUnconnected, IsUnsentAttempt}
+use Rattle.relay_proxy.specs.Endings.{AttemptsFailed, AttemptsUnlinked, EndsAhead, EndsLinked, EndsUnlinked, EndsWith, FailsToConnect, IsGivenAhead, IsOwedUnlinked, IsUnconnected}
 use Rattle.relay_proxy.specs.Legs.{AreLegs, BeginsAt, Leg, behind}
 use Rattle.relay_proxy.specs.Owed.{Owes, IsAnswering}
 use Rattle.relay_proxy.specs.Passed.{World, Start, called_to}
