@@ -4,7 +4,7 @@ use Rattle.std.specs.List.{remove}
 use Rattle.std.proofs.lemmas.List.{take_more, drop_more, take-append-drop, length-take-le, get_or_at, get_or_default}
 use Rattle.std.proofs.lemmas.List.Edits.{remove-append_right}
 use Rattle.std.proofs.lemmas.Slice.Eq.{bytes_eq-Decides}
-use Rattle.core.specs.Cmp.{booleans_Decides}
+use Rattle.std.specs.Bool.{beq}
 use Rattle.relay_tasks.specs.declared.peer.Peer.{Peer}
 use Rattle.relay_tcp.specs.declared.idle.IdleLink.{IdleLink}
 use Rattle.relay_tcp.specs.declared.tcp_link.TcpLink.{TcpLink}
@@ -77,9 +77,16 @@ pub same_address : (peer : Peer) (idle : IdleLink) → is_for peer idle ≡ true
 same_address peer idle same =
     (bytes_eq-Decides idle.peer.address peer.address).0 (grind arith)
 
+-- flags that compare as equal are one
+same_flag : (x y : Bool) → beq x y ≡ true → x ≡ y
+same_flag true true is = refl
+same_flag true false is = sym is
+same_flag false true is = is
+same_flag false false is = refl
+
 pub same_tls : (peer : Peer) (idle : IdleLink) → is_for peer idle ≡ true
     → idle.peer.tls ≡ peer.tls
-same_tls peer idle same = (booleans_Decides idle.peer.tls peer.tls).0 (grind arith)
+same_tls peer idle same = same_flag idle.peer.tls peer.tls (grind arith)
 
 -- the search comes to a link to the peer, at the place before the one where it stood
 module _ (peer : Peer) (links now after : List IdleLink) (place : ℕ) (seen idle : IdleLink)
