@@ -24,7 +24,6 @@ use Rattle.relay_proxy.specs.Tries.{AreTries, EndsTrying, LosesTry, Refusal, fau
 use Rattle.relay_proxy.specs.declared.outcome.Outcome.{Outcome}
 use Rattle.relay_proxy.specs.declared.outcome.Outcome.TheVariants as ended
 use Rattle.relay_proxy.specs.declared.record.AttemptRecord.{AttemptRecord}
-use Rattle.relay_proxy.proofs.RefusalLemmas.{told_append}
 use Rattle.relay_proxy.proofs.TryLemmas.{tries_before}
 use Rattle.relay_command.specs.Exchange.{AreLinksOf, GetsNext, left_by, links_back, offers_of, peer_offer}
 use Rattle.relay_json.specs.Script.{PeerSpec}
@@ -35,6 +34,14 @@ pub record HaveAsked (peers : List PeerSpec) (attempts : List AttemptRecord)
     (links : List (Returned ScriptLink)) (left : List Offer) : Type 0 where
   pub are_links : AreLinksOf peers attempts links
   pub are_left : left ≡ offers_of (drop (length attempts) peers)
+
+-- the faults of attempts, and of those behind them
+told_append : (tries attempts : List AttemptRecord)
+    → faults_told (tries ++ attempts) ≡ faults_told tries ++ faults_told attempts
+told_append [] attempts = refl
+told_append (a ∷ tries) attempts =
+    ap (λ (fs : List Fault). fault_told a.fault ++ fs) (told_append tries attempts)
+    ∙ sym (append_assoc (fault_told a.fault) (faults_told tries) (faults_told attempts))
 
 -- ---- one attempt more
 
