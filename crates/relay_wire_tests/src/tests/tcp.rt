@@ -1,3 +1,6 @@
+ghost use Rattle.std.specs.Prelude.{◌≡◌, ◌+◌, ◌≤◌, IfOk, vec_len};
+ghost use Rattle.relay_tcp.specs.TcpConnector.{links_out};
+
 use bytes::Bytes;
 use mio::net::{TcpListener, TcpStream};
 use mio::{Events, Interest, Poll, Token};
@@ -141,18 +144,44 @@ fn connect(
     rt: &HostRuntime,
     listener: &TcpListener,
     connector: &mut TcpConnector<HostRuntime>,
-) -> Result<(TcpLink, TcpLink), Fail> {
-    match connector.get(&peer()).ok().ok_or("refused")? {
-        (near, false) => Ok((near, accept(rt, listener)?)),
-        (_, true) => Err(Fail::from("reused")),
+) -> Result<(TcpLink, TcpLink), Fail>
+    ensures ok { IfOk result (λ _. links_out connector.new ≡ links_out connector.old + 1) }
+    ensures grows { links_out connector.old ≤ links_out connector.new }
+{
+    match connector.get(&peer()) {
+        Ok((near, false)) => Ok((near, accept(rt, listener)?)),
+        Ok((_, true)) => Err(Fail::from("reused")),
+        Err(_) => Err(Fail::from("refused")),
+    }
+}
+
+/// The next link, which was used before.
+fn reconnect(connector: &mut TcpConnector<HostRuntime>) -> Result<TcpLink, Fail>
+    ensures { IfOk result (λ _. links_out connector.new ≡ links_out connector.old + 1) }
+{
+    match connector.get(&peer()) {
+        Ok((near, true)) => Ok(near),
+        Ok((_, false)) => Err(Fail::from("new")),
+        Err(_) => Err(Fail::from("refused")),
     }
 }
 
 /// Whether the next link to that peer was used before. It goes back, and is not kept.
 fn reuses(connector: &mut TcpConnector<HostRuntime>, peer: Peer) -> Result<bool, Fail> {
-    let (near, reused) = connector.get(&peer).ok().ok_or("refused")?;
-    connector.release(peer, near, false);
-    Ok(reused)
+    match connector.get(&peer) {
+        Ok((near, reused)) => {
+            connector.release(peer, near, false);
+            Ok(reused)
+        }
+        Err(_) => Err(Fail::from("refused")),
+    }
+}
+
+/// Whether what one link writes the other one reads.
+fn reaches(waiting: &mut Waiting, from: &mut TcpLink, to: &mut TcpLink) -> io::Result<bool> {
+    let took = from.write(b"ping");
+    let got = read_four(waiting, to, ROUNDS)?;
+    Ok(took == Put::Took(4) && got == (Got::Bytes(4), *b"ping"))
 }
 
 #[test]
@@ -160,20 +189,16 @@ fn a_kept_link_is_handed_out_again(rt: HostRuntime) -> Result<(), Fail> {
     let mut waiting = Waiting::new(&rt)?;
     let listener = listen(&rt)?;
     let mut connector = connector(&rt, listener.local_addr()?, &waiting)?;
-    let (near, mut far) = connect(&rt, &listener, &mut connector)?;
-    let mut kept = near;
-    for _ in 0..3 {
-        assert_eq!(rt; kept.write(b"ping"), Put::Took(4));
-        let ping = read_four(&mut waiting, &mut far, ROUNDS)?;
-        assert_eq!(rt; ping, (Got::Bytes(4), *b"ping"));
-        assert_eq!(rt; far.write(b"pong"), Put::Took(4));
-        let pong = read_four(&mut waiting, &mut kept, ROUNDS)?;
-        assert_eq!(rt; pong, (Got::Bytes(4), *b"pong"));
-        connector.release(peer(), kept, true);
-        let (near, reused) = connector.get(&peer()).ok().ok_or("refused")?;
-        assert_eq!(rt; (reused, near.used(), near.faults()), (true, 0, 0));
-        kept = near;
-    }
+    let (mut first, mut far) = connect(&rt, &listener, &mut connector)?;
+    assert!(rt; reaches(&mut waiting, &mut first, &mut far)?);
+    connector.release(peer(), first, true);
+    let mut second = reconnect(&mut connector)?;
+    assert_eq!(rt; (second.used(), second.faults()), (0, 0));
+    assert!(rt; reaches(&mut waiting, &mut second, &mut far)?);
+    assert!(rt; reaches(&mut waiting, &mut far, &mut second)?);
+    connector.release(peer(), second, true);
+    let mut third = reconnect(&mut connector)?;
+    assert!(rt; reaches(&mut waiting, &mut far, &mut third)?);
     assert!(rt; listener.accept().is_err());
     Ok(())
 }
@@ -216,11 +241,8 @@ fn a_link_that_the_peer_closed_is_not_handed_out(rt: HostRuntime) -> Result<(), 
     drop(far);
     thread::sleep(&rt, Duration::from_millis(20));
     // The one that was kept before it stands.
-    let (mut next, reused) = connector.get(&peer()).ok().ok_or("refused")?;
-    assert!(rt; reused);
-    assert_eq!(rt; next.write(b"ping"), Put::Took(4));
-    let ping = read_four(&mut waiting, &mut standing, ROUNDS)?;
-    assert_eq!(rt; ping, (Got::Bytes(4), *b"ping"));
+    let mut next = reconnect(&mut connector)?;
+    assert!(rt; reaches(&mut waiting, &mut next, &mut standing)?);
     assert!(rt; !reuses(&mut connector, peer())?);
     Ok(())
 }
@@ -241,34 +263,54 @@ fn a_link_on_which_bytes_came_is_not_handed_out(rt: HostRuntime) -> Result<(), F
     Ok(())
 }
 
+/// A connector, and links of it that are out.
+#[derive(Drop)]
+struct Holding {
+    connector: TcpConnector<HostRuntime>,
+    near: Vec<TcpLink>,
+    ghost out: { vec_len near ≤ links_out connector },
+}
+
+impl Holding {
+    /// Takes one more link; its far end.
+    fn connect(&mut self, rt: &HostRuntime, listener: &TcpListener) -> Result<TcpLink, Fail> {
+        let (near, far) = connect(rt, listener, &mut self.connector)?;
+        self.near.push(near)?;
+        Ok(far)
+    }
+
+    /// Hands back the link that it took last, to be kept.
+    fn release(&mut self) {
+        if let Some(link) = self.near.pop() {
+            self.connector.release(peer(), link, true);
+        }
+    }
+}
+
 #[test]
 fn of_too_many_kept_links_the_oldest_is_closed(rt: HostRuntime) -> Result<(), Fail> {
     let mut waiting = Waiting::new(&rt)?;
     let listener = listen(&rt)?;
-    let mut connector = connector(&rt, listener.local_addr()?, &waiting)?;
-    let (oldest, mut closed) = connect(&rt, &listener, &mut connector)?;
-    let mut near = Vec::new(rt.alloc());
+    let connector = connector(&rt, listener.local_addr()?, &waiting)?;
+    let near = Vec::new(rt.alloc());
+    let mut holding = Holding { connector, near };
     let mut far = Vec::new(rt.alloc());
     for _ in 0..MOST_IDLE {
-        let (one, other) = connect(&rt, &listener, &mut connector)?;
-        near.push(one)?;
-        far.push(other)?;
+        far.push(holding.connect(&rt, &listener)?)?;
     }
-    connector.release(peer(), oldest, true);
-    for link in near {
-        assert_eq!(rt; read_four(&mut waiting, &mut closed, 1)?.0, Got::NotReady);
-        connector.release(peer(), link, true);
+    let mut oldest = holding.connect(&rt, &listener)?;
+    for _ in 0..MOST_IDLE {
+        holding.release();
     }
-    assert_eq!(rt; read_four(&mut waiting, &mut closed, ROUNDS)?.0, Got::End);
+    assert_eq!(rt; read_four(&mut waiting, &mut oldest, 10)?.0, Got::NotReady);
+    holding.release();
+    assert_eq!(rt; read_four(&mut waiting, &mut oldest, ROUNDS)?.0, Got::End);
     // The others are handed out from the last one on.
-    while let Some(mut other) = far.pop() {
-        let (mut link, reused) = connector.get(&peer()).ok().ok_or("refused")?;
-        assert!(rt; reused);
-        assert_eq!(rt; link.write(b"ping"), Put::Took(4));
-        let ping = read_four(&mut waiting, &mut other, ROUNDS)?;
-        assert_eq!(rt; ping, (Got::Bytes(4), *b"ping"));
+    for mut other in far {
+        let mut link = reconnect(&mut holding.connector)?;
+        assert!(rt; reaches(&mut waiting, &mut link, &mut other)?);
     }
-    assert!(rt; !reuses(&mut connector, peer())?);
+    assert!(rt; !reuses(&mut holding.connector, peer())?);
     Ok(())
 }
 
@@ -279,8 +321,7 @@ fn a_kept_link_is_told_of(rt: HostRuntime) -> Result<(), Fail> {
     let mut connector = connector(&rt, listener.local_addr()?, &waiting)?;
     let (near, mut far) = connect(&rt, &listener, &mut connector)?;
     connector.release(peer(), near, true);
-    let (mut near, reused) = connector.get(&peer()).ok().ok_or("refused")?;
-    assert!(rt; reused);
+    let mut near = reconnect(&mut connector)?;
     // It is still waited for, and does not ask before it is told.
     assert!(rt; is_told_apart(&rt, &mut near, &mut far));
     waiting.wait(1000)?;
