@@ -517,9 +517,9 @@ none_yet script run left all begins = record {
 }
 
 -- one request more stands behind those so far
-behind : (requests : List RequestSpec) (request : RequestSpec) (rest : List RequestSpec)
+one_behind : (requests : List RequestSpec) (request : RequestSpec) (rest : List RequestSpec)
     → requests ++ request ∷ rest ≡ (requests ++ request ∷ []) ++ rest
-behind requests request rest = sym (append_assoc requests (request ∷ []) rest)
+one_behind requests request rest = sym (append_assoc requests (request ∷ []) rest)
 
 -- one request more, from which the client goes back
 pub one_more : (script : ScriptSpec) (old new : Run) (left less : ℕ) (requests : List RequestSpec)
@@ -533,7 +533,7 @@ one_more script old new left less requests request under runs back is = record {
   at = runs.stands back;
   goes = λ rest next.
       subst (λ (rs : List RequestSpec). AreRun script script.requests
-      (first_place under.begun.client.link script.peers) rs) (behind requests request rest)
+      (first_place under.begun.client.link script.peers) rs) (one_behind requests request rest)
       (under.goes (request ∷ rest)
       (subst (λ (n : ℕ). AreRun script n (place_of old under.peers) (request ∷ rest)) (sym is)
       (goes_on script less (place_of old under.peers) (place_of new runs.left) request rest

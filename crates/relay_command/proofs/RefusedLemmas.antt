@@ -132,7 +132,8 @@ refused_at (b ∷ attempts) peers links zero a fault are at is =
     ap (λ (x : AttemptRecord). x.fault) (same_Some b a at) ∙ is in
     subst (λ (o : Option Fault). GetsNext o peers links) told are.0
 refused_at (b ∷ attempts) peers links (suc n) a fault are at is =
-    subst (λ (ps : List PeerSpec). IsRefusedBy ps fault) (drop-drop n 1 peers)
+    subst (λ (ps : List PeerSpec). IsRefusedBy ps fault)
+    (drop-drop n 1 peers ∙ ap (λ (k : ℕ). drop k peers) (omega arith))
     (refused_at attempts (drop 1 peers) (left_by b.fault links) n a fault are.1 at is)
 
 -- an attempt tells that the connector refused it a link only where the script says so of the peer
@@ -212,7 +213,7 @@ links_bytes (r ∷ links) = link_bytes r.link + links_bytes links
 
 links_append : (these those : List (Returned ScriptLink))
     → links_bytes (these ++ those) ≡ links_bytes these + links_bytes those
-links_append [] those = refl
+links_append [] those = omega arith
 links_append (r ∷ these) those = omega (arith, links_append these those)
 
 -- the link of an attempt has those of its peer

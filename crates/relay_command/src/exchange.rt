@@ -104,9 +104,20 @@ impl Run {
             alloc,
             &mut self.names,
             &processed,
-            &self.client.link().taken()[taken..],
+            bytes_behind(self.client.link().taken(), taken),
             &self.proxy.connector().returned()[back..],
         )
+    }
+}
+
+/// The bytes behind so many of them; none where there are no more.
+fn bytes_behind(bytes: &[u8], count: usize) -> &[u8]
+    ensures { result.now ≡ drop count bytes.now }
+{
+    if count < bytes.len() {
+        &bytes[count..]
+    } else {
+        &[]
     }
 }
 

@@ -19,31 +19,31 @@ loop-attempt-preserved c =
     let attempts = c.args.attempts.now in
     let before = c.loop-attempt.reports in
     let names = c.loop-attempt.names.items in
-    let links = c.loop-attempt.rest in
+    let links = c.loop-attempt.rest.now in
     let sents = sents_of links in
     let n = vec_len before in
     let a = c.in-Some.attempt.now in
-    let taken = c.in_ok-take_sent.ensures in
+    let taken = c.in_ok-sent.ensures in
     let here : slice_get attempts n ≡ Some a =
     ap (slice_get attempts) (sym c.len.ensures) ∙ c.in-Some.ensures.value in
     let len : vec_len c.push.new.self ≡ n + 1 = c.in_ok-push.ensures.len in
     let report : c.attempt_report-report.result
     ≡ attempt_report (first_name names) (sent_by a.fault sents) a =
     c.attempt_report-report.ensures
-    ∙ ap (λ (name : List ℕ). attempt_report name c.in_ok-take_sent.sent a) c.take_name.ensures.name
+    ∙ ap (λ (name : List ℕ). attempt_report name c.in_ok-sent.sent a) c.take_name.ensures.name
     ∙ ap (λ (bytes : List ℕ). attempt_report (first_name names) bytes a) taken.0 in
     let items : c.push.new.self.items ≡ before.items
     ++ attempt_report (first_name names) (sent_by a.fault sents) a ∷ [] =
     c.in_ok-push.ensures.items
     ∙ ap (λ (r : AttemptReport). before.items ++ r ∷ []) report in
-    let left : sents_of c.in_ok-take_sent.behind.now ≡ left_by a.fault sents =
+    let left : sents_of c.in_ok-sent.behind.now ≡ left_by a.fault sents =
     ap (λ (rs : List (Returned ScriptLink)). sents_of rs) taken.1 ∙ sents_left a.fault links in (
       omega (arith, len, slice_get_within attempts n a here),
       ap (λ (k : ℕ). c.push.new.self.items
-          ++ attempt_reports c.take_name.new.names.items (sents_of c.in_ok-take_sent.behind.now)
+          ++ attempt_reports c.take_name.new.names.items (sents_of c.in_ok-sent.behind.now)
           (drop k attempts)) len
           ∙ ap (λ (ns : List (List ℕ)). c.push.new.self.items
-          ++ attempt_reports ns (sents_of c.in_ok-take_sent.behind.now)
+          ++ attempt_reports ns (sents_of c.in_ok-sent.behind.now)
           (drop (n + 1) attempts)) c.take_name.ensures.left
           ∙ ap (λ (ss : List (List ℕ)). c.push.new.self.items
           ++ attempt_reports (drop 1 names) ss (drop (n + 1) attempts)) left

@@ -48,10 +48,10 @@ returns c = λ script peers many at.
     c.returned-back.ensures ∙ ap links_returned c.connector.ensures in
     let has : behind ≡ links_returned c.process_new_http-processed.new.self.connector =
     c.returned.ensures ∙ ap links_returned c.connector-2.ensures in
-    let wrote : slice_range last (length first) (length last)
+    let wrote : c.bytes_behind.result.now
     ≡ drop (length (taken_of c.args.self.now.client.link))
     (taken_of c.process_new_http-processed.new.client.link) =
-    range_end last (length first) ∙ rw (started, stands) refl in
+    c.bytes_behind.ensures ∙ rw (started, stands) refl in
     let back : slice_range behind (length before) (length behind)
     ≡ drop (length (links_returned c.args.self.now.proxy.connector))
     (links_returned c.process_new_http-processed.new.self.connector) =
@@ -59,13 +59,13 @@ returns c = λ script peers many at.
     IfOk-weaker c.request_report.result
     (λ (request : RequestReport). (request_spec request
     ≡ reported c.args.self.now.names.items processed
-    (slice_range last (length first) (length last))
+    c.bytes_behind.result.now
     (slice_range behind (length before) (length behind)))
     × (c.request_report.new.names.items
     ≡ drop (length processed.history.attempts) c.args.self.now.names.items))
     _
     (λ request found. run_next script peers c.args.self.now _ processed c.args.turns
-    (slice_range last (length first) (length last))
+    c.bytes_behind.result.now
     (slice_range behind (length before) (length behind))
     (request_spec request) many at c.process_new_http-processed.ensures.processes
     c.process_new_http-processed.ensures.client_start
