@@ -1,5 +1,5 @@
 -- The requests of a run: what each leaves of the script's peers, and what is reported of it.
-use Rattle.std.proofs.Common.{◌≡◌, ◌≢◌, inl, inr, ◌⊎◌, Option, None, Ok, Err, subst, ℕ, zero, suc, ◌+◌, List, [], ◌∷◌, ◌++◌, map, drop, take, length, Bool, true, false, Some, refl, sym, ap, ◌∙◌, append_assoc, append-nil, true≢false}
+use Rattle.std.proofs.Common.{◌≡◌, ◌≢◌, inl, inr, ◌⊎◌, Option, None, Ok, subst, ℕ, zero, suc, ◌+◌, List, [], ◌∷◌, ◌++◌, map, drop, take, length, Bool, true, false, Some, refl, sym, ap, ◌∙◌, append_assoc, append-nil, true≢false}
 use Rattle.std.specs.List.{slice_get, slice_range}
 use Rattle.std.proofs.Math.Seq.{drop-append_seam, take-length}
 use Rattle.std.proofs.lemmas.List.{length-drop, map-append}

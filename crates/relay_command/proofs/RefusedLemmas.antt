@@ -132,8 +132,9 @@ refused_at (b ∷ attempts) peers links zero a fault are at is =
     ap (λ (x : AttemptRecord). x.fault) (same_Some b a at) ∙ is in
     subst (λ (o : Option Fault). GetsNext o peers links) told are.0
 refused_at (b ∷ attempts) peers links (suc n) a fault are at is =
+    let place : 1 + n ≡ suc n = omega arith in
     subst (λ (ps : List PeerSpec). IsRefusedBy ps fault)
-    (drop-drop n 1 peers ∙ ap (λ (k : ℕ). drop k peers) (omega arith))
+    (drop-drop n 1 peers ∙ ap (λ (k : ℕ). drop k peers) place)
     (refused_at attempts (drop 1 peers) (left_by b.fault links) n a fault are.1 at is)
 
 -- an attempt tells that the connector refused it a link only where the script says so of the peer

@@ -1,6 +1,6 @@
 -- The attempt at the place behind the reports is the next one, at the next of the names, and where
 -- it had a link it had the next of the links.
-use Rattle.std.proofs.Common.{◌≡◌, ◌+◌, ◌∷◌, [], ◌++◌, ◌∙◌, List, ℕ, ap, sym, subst, arith, refl, Some, vec_len, drop}
+use Rattle.std.proofs.Common.{◌≡◌, ◌+◌, ◌∷◌, [], ◌++◌, ◌∙◌, List, ℕ, ap, sym, subst, arith, Some, vec_len, drop}
 use Rattle.std.specs.List.{slice_get}
 use Rattle.std.proofs.lemmas.List.{drop-drop}
 use Rattle.std.proofs.lemmas.Option.{slice_get_within}
