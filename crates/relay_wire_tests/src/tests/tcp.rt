@@ -279,12 +279,43 @@ impl Holding {
         Ok(far)
     }
 
-    /// Hands back the link that it took last, to be kept.
-    fn release(&mut self) {
-        if let Some(link) = self.near.pop() {
-            self.connector.release(peer(), link, true);
+    /// Takes so many links; their far ends.
+    fn connect_all(
+        &mut self,
+        rt: &HostRuntime,
+        listener: &TcpListener,
+        count: usize,
+    ) -> Result<Vec<TcpLink>, Fail> {
+        let mut far = Vec::new(rt.alloc());
+        for _ in 0..count {
+            far.push(self.connect(rt, listener)?)?;
+        }
+        Ok(far)
+    }
+
+    /// Hands back so many links, to be kept, the last one first.
+    fn release(&mut self, count: usize) {
+        for _ in 0..count {
+            if let Some(link) = self.near.pop() {
+                self.connector.release(peer(), link, true);
+            }
         }
     }
+}
+
+/// Whether the links that are handed out reach these far ends, in order.
+fn hands_out_all(
+    waiting: &mut Waiting,
+    connector: &mut TcpConnector<HostRuntime>,
+    far: Vec<TcpLink>,
+) -> Result<bool, Fail> {
+    for mut other in far {
+        let mut link = reconnect(connector)?;
+        if !reaches(waiting, &mut link, &mut other)? {
+            return Ok(false);
+        }
+    }
+    Ok(true)
 }
 
 #[test]
@@ -294,23 +325,16 @@ fn of_too_many_kept_links_the_oldest_is_closed(rt: HostRuntime) -> Result<(), Fa
     let connector = connector(&rt, listener.local_addr()?, &waiting)?;
     let near = Vec::new(rt.alloc());
     let mut holding = Holding { connector, near };
-    let mut far = Vec::new(rt.alloc());
-    for _ in 0..MOST_IDLE {
-        far.push(holding.connect(&rt, &listener)?)?;
-    }
+    let far = holding.connect_all(&rt, &listener, MOST_IDLE)?;
     let mut oldest = holding.connect(&rt, &listener)?;
-    for _ in 0..MOST_IDLE {
-        holding.release();
-    }
+    holding.release(MOST_IDLE);
     assert_eq!(rt; read_four(&mut waiting, &mut oldest, 10)?.0, Got::NotReady);
-    holding.release();
+    holding.release(1);
     assert_eq!(rt; read_four(&mut waiting, &mut oldest, ROUNDS)?.0, Got::End);
     // The others are handed out from the last one on.
-    for mut other in far {
-        let mut link = reconnect(&mut holding.connector)?;
-        assert!(rt; reaches(&mut waiting, &mut link, &mut other)?);
-    }
-    assert!(rt; !reuses(&mut holding.connector, peer())?);
+    let Holding { mut connector, .. } = holding;
+    assert!(rt; hands_out_all(&mut waiting, &mut connector, far)?);
+    assert!(rt; !reuses(&mut connector, peer())?);
     Ok(())
 }
 
