@@ -31,13 +31,13 @@ pub record IsNew (downstream : HttpSession) (seen : Seen) : Type 0 where
   pub received : seen.upstream.received ≡ 0
   pub sent : seen.upstream.sent ≡ None
 
--- what the session shows to a log: whether a final head was queued. It keeps no replay and offers
--- no upgrade
+-- what the session shows to a log: whether a final head was queued, and whether bytes of the body
+-- were given out that are kept no longer. It offers no upgrade
 abbrev pub view_of : Seen → View
 view_of seen =
     record {
       final_head = has_head seen.downstream.writing.place;
-      truncated = false;
+      truncated = is_truncated seen.downstream.reading;
       upgraded = false;
     }
 

@@ -70,14 +70,14 @@ impl Seen {
         }
     }
 
-    /// What a log entry shows of the session. It keeps no replay and offers no upgrade.
+    /// What a log entry shows of the session. It offers no upgrade.
     #[inline(always)]
     pub fn view(&self) -> View
         ensures { result ≡ view_of self.now }
     {
         View {
             final_head: self.downstream.response_written(),
-            truncated: false,
+            truncated: self.downstream.retry_buffer_truncated(),
             upgraded: false,
         }
     }

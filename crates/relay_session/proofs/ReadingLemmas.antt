@@ -1,5 +1,5 @@
 -- What a call on the client says of the request: all that came since the session began.
-use Rattle.std.proofs.Common.{◌≡◌, ℕ, ◌+◌, ◌<◌, Bool, true, false, cond, lit<, List, [], ◌∷◌, ◌++◌, length, drop, Option, Some, None, refl, sym, ◌∙◌, ap, subst, append-nil, add-zero, length-append, arith, inl, inr}
+use Rattle.std.proofs.Common.{◌≡◌, ℕ, ◌+◌, ◌<◌, Bool, true, false, cond, lit<, lit≤, List, [], ◌∷◌, ◌++◌, length, drop, Option, Some, None, refl, sym, ◌∙◌, ap, subst, append-nil, add-zero, length-append, arith, inl, inr}
 use Rattle.std.proofs.lemmas.Bool.{cases_Bool}
 use Rattle.std.specs.Prelude.{min, ⊤, IsSome, IsTrue, ◌&&◌, ◌-◌, ◌⊎◌, codes}
 use Rattle.std.proofs.lemmas.List.{drop-append-le}
@@ -38,6 +38,8 @@ use Rattle.relay_session.specs.Reading.{begun, IsInBody, RequestSoFar, SaysBody,
 use Rattle.relay_session.specs.declared.reading.Reading.{Reading}
 use Rattle.relay_session.specs.declared.reading.Reading.TheVariants as reading
 use Rattle.relay_session.specs.declared.reading.BegunRequest.{BegunRequest}
+use Rattle.relay_session.specs.declared.replay.Replay.{Replay}
+use Rattle.relay_session.specs.Replay.{Keeps}
 
 -- ---- what a link gave
 
@@ -208,6 +210,7 @@ head_came before after given body ahead left head ends new so_far gives is =
       has = gives.has;
       so_far = rw (← gives.rest) (SoFar-first gives.framing left);
       counted = refl;
+      kept = (refl, lit≤ tt);
     }))
     (rw (is, so_far.0) (gives.len, gives.has))
 
@@ -220,6 +223,7 @@ first_in_body given head f len has = record {
   has = has;
   so_far = SoFar-first f (drop len given);
   counted = refl;
+  kept = (refl, lit≤ tt);
 }
 
 -- no head is none
@@ -337,18 +341,25 @@ module _ (given body ahead : List ℕ) (old : BegunRequest)
       (SoFar-more old.framing (drop begins.len given) body ahead came old.body begins.so_far)
 
   -- a piece was taken out of what is ahead and what came
-  pub goes_over : (came piece left : List ℕ) (new : State) (count : ℕ)
+  pub goes_over : (came piece left : List ℕ) (new : State) (count : ℕ) (replay : Replay)
       → Takes old.body (ahead ++ came) piece new left
-      → count ≡ min (length (body ++ piece)) last_count
+      → count ≡ min (length (body ++ piece)) last_count → Keeps (body ++ piece) replay
       → IsInBody (given ++ came) (body ++ piece) left
-      (record { head = old.head; framing = old.framing; body = new; received = count })
-  goes_over came piece left new count takes counted = record {
+      (record {
+        head = old.head;
+        framing = old.framing;
+        body = new;
+        received = count;
+        replay = replay;
+      })
+  goes_over came piece left new count replay takes counted kept = record {
     head = begins.head;
     len = begins.len;
     has = HasRequest-append given came begins.head old.framing begins.len begins.has;
     so_far = SoFar-take old.framing (drop begins.len (given ++ came)) body piece (ahead ++ came)
         left old.body new takes (grown_body came);
     counted = counted;
+    kept = kept;
   }
 
   -- what stands ahead and what came says of the body
@@ -518,13 +529,30 @@ count_after (took.Waited pause) count = count
 count_after took.End count = count
 count_after (took.Failed failure) count = count
 
+-- what is kept behind an answer: a piece changes it
+abbrev pub kept_after : Took (List ℕ × Bool) → Replay → Replay → Replay
+kept_after (took.Item item) old new = new
+kept_after took.More old new = old
+kept_after (took.Waited pause) old new = old
+kept_after took.End old new = old
+kept_after (took.Failed failure) old new = old
+
+-- a piece is kept
+abbrev pub KeepsPiece : List ℕ → Took (List ℕ × Bool) → Replay → Type 0
+KeepsPiece body (took.Item item) new = Keeps (body ++ item.0) new
+KeepsPiece body took.More new = Unit {0}
+KeepsPiece body (took.Waited pause) new = Unit {0}
+KeepsPiece body took.End new = Unit {0}
+KeepsPiece body (took.Failed failure) new = Unit {0}
+
 -- the request behind an answer
-abbrev pub moved : BegunRequest → State → Took (List ℕ × Bool) → Reading
-moved old new answer = reading.Body (record {
+abbrev pub moved : BegunRequest → State → Replay → Took (List ℕ × Bool) → Reading
+moved old new replay answer = reading.Body (record {
   head = old.head;
   framing = old.framing;
   body = new;
   received = count_after answer old.received;
+  replay = kept_after answer old.replay replay;
 })
 
 -- ---- what the answer of a call for the body tells is told wherever it holds
@@ -706,16 +734,15 @@ module _
     (begins : IsInBody given body ahead old) where
   -- no byte of the body came
   no_piece : (came : List ℕ) → Takes old.body (ahead ++ came) [] new left
-      → IsInBody (given ++ came) (body ++ []) left
-      (record { head = old.head; framing = old.framing; body = new; received = old.received })
+      → IsInBody (given ++ came) (body ++ []) left (record old { body = new })
   no_piece came takes =
-      goes_over given body ahead old begins came [] left new old.received takes
+      goes_over given body ahead old begins came [] left new old.received old.replay takes
       (counted_still body old.received begins.counted)
+      (subst (λ (xs : List ℕ). Keeps xs old.replay) (sym (append-nil body)) begins.kept)
 
   -- nothing came
   stays_in : (still_open : Type 0) → front.StaysInBody still_open old.body new ahead left
-      → IsInBody (given ++ []) (body ++ []) left
-      (record { head = old.head; framing = old.framing; body = new; received = old.received })
+      → IsInBody (given ++ []) (body ++ []) left (record old { body = new })
   stays_in still_open stays = no_piece [] (rw append-nil stays.takes)
 
   -- what all bytes given say, where nothing came
@@ -724,51 +751,55 @@ module _
   says_still text reads = says_of_body given body ahead old begins [] text (rw append-nil reads)
 
   -- a call for more of the body
-  pub body_on : (answer : Took (List ℕ × Bool))
-      → ReadsPiece before after old.body new ahead left answer
-      → ReadsRest before after given body ahead left false (moved old new answer) (plain answer)
-  body_on (took.Item item) gives =
+  pub body_on : (replay : Replay) (answer : Took (List ℕ × Bool))
+      → ReadsPiece before after old.body new ahead left answer → KeepsPiece body answer replay
+      → ReadsRest before after given body ahead left false (moved old new replay answer)
+      (plain answer)
+  body_on replay (took.Item item) gives kept =
       let goes = goes_over given body ahead old begins gives.came item.0 left new
-      (min (old.received + length item.0) last_count) gives.takes
-      (counted_up body item.0 old.received begins.counted) in
+      (min (old.received + length item.0) last_count) replay gives.takes
+      (counted_up body item.0 old.received begins.counted) kept in
       rest_goes before after given gives.came body ahead left _ (took.Item item.0)
       (comes_given _ before after gives.came gives.comes) goes
       (gives.longest.some, body_whole (given ++ gives.came) (body ++ item.0) left _ goes)
-  body_on took.More leaves =
+  body_on replay took.More leaves is_kept =
       rest_goes before after given leaves.came body ahead left _ took.More
       (gave_given before after leaves.came leaves.gave) (no_piece leaves.came leaves.takes) (
         (says_of_body given body ahead old begins leaves.came (open_text []) leaves.says).1,
         leaves.gave,
       )
-  body_on (took.Waited NotReady) stays =
+  body_on replay (took.Waited NotReady) stays is_kept =
       rest_goes before after given [] body ahead left _ (took.Waited NotReady)
       (nothing_came before after stays.1.given) (stays_in _ stays.0)
       ((says_still (open_text []) stays.0.was_open).1, stays.1)
-  body_on (took.Waited Silent) stays =
+  body_on replay (took.Waited Silent) stays is_kept =
       rest_goes before after given [] body ahead left _ (took.Waited Silent)
       (nothing_came before after (ap (λ (s : LinkState). s.given) stays.1.same))
       (stays_in _ stays.0) ((says_still (open_text []) stays.0.was_open).1, stays.1)
-  body_on took.End (front.EndsBody.is_whole came n comes takes reads size done) =
+  body_on replay took.End (front.EndsBody.is_whole came n comes takes reads size done) is_kept =
       let goes = no_piece came takes in
       rest_goes before after given came body ahead left _ took.End
       (comes_given _ before after came comes) goes
       (body_whole (given ++ came) (body ++ []) left _ goes done)
-  body_on took.End (front.EndsBody.client_ended at stays ends may is) =
+  body_on replay took.End (front.EndsBody.client_ended at stays ends may is) is_kept =
       absurd (never_by_close given body ahead old begins stays.was_open may)
-  body_on (took.Failed fail.OutOfMemory) kept =
+  body_on replay (took.Failed fail.OutOfMemory) kept is_kept =
       rest_goes before after given kept.came body ahead left _ (took.Failed fail.OutOfMemory)
       (comes_given _ before after kept.came kept.comes) (no_piece kept.came kept.takes)
       kept.inside
-  body_on (took.Failed (fail.Error error)) (front.RefusesBody.is_broken came comes takes reads is) =
+  body_on replay (took.Failed (fail.Error error))
+      (front.RefusesBody.is_broken came comes takes reads is) is_kept =
       rest_goes before after given came body ahead left _ (took.Failed (fail.Error error))
       (comes_given _ before after came comes) (no_piece came takes)
       (says.RefusesRest.is_broken
       (says_of_body given body ahead old begins came broken_text reads).1 is)
-  body_on (took.Failed (fail.Error error)) (front.RefusesBody.ends_inside stays ends may is) =
+  body_on replay (took.Failed (fail.Error error))
+      (front.RefusesBody.ends_inside stays ends may is) is_kept =
       rest_goes before after given [] body ahead left _ (took.Failed (fail.Error error))
       (nothing_came before after ends.given) (stays_in _ stays)
       (says.RefusesRest.ends_inside (says_still (open_text []) stays.was_open).1 ends is)
-  body_on (took.Failed (fail.Error error)) (front.RefusesBody.link_failed fault stays fails is) =
+  body_on replay (took.Failed (fail.Error error))
+      (front.RefusesBody.link_failed fault stays fails is) is_kept =
       rest_goes before after given [] body ahead left _ (took.Failed (fail.Error error))
       (nothing_came before after fails.given) (stays_in _ stays)
       (says.RefusesRest.link_failed fault (says_still (open_text []) stays.was_open).1 fails is)
@@ -804,52 +835,56 @@ module _
       watches
 
   -- one look at a client whose request has ended
-  pub still_on : (answer : Took (List ℕ × Bool)) → Watches before after ahead left answer
-      → ReadsRest before after given body ahead left true (moved old old.body answer) (plain answer)
-  still_on (took.Item item) watches = absurd watches
-  still_on took.More watches = absurd watches
-  still_on (took.Waited NotReady) watches =
+  pub still_on : (replay : Replay) (answer : Took (List ℕ × Bool))
+      → Watches before after ahead left answer
+      → ReadsRest before after given body ahead left true (moved old old.body replay answer)
+      (plain answer)
+  still_on replay (took.Item item) watches = absurd watches
+  still_on replay took.More watches = absurd watches
+  still_on replay (took.Waited NotReady) watches =
       all_still (took.Waited NotReady) watches.2 watches.1.given refl watches
-  still_on (took.Waited Silent) watches =
+  still_on replay (took.Waited Silent) watches =
       all_still (took.Waited Silent) watches.2 (ap (λ (s : LinkState). s.given) watches.1.same) refl
       watches
-  still_on took.End watches = absurd watches
-  still_on (took.Failed fail.OutOfMemory) watches =
+  still_on replay took.End watches = absurd watches
+  still_on replay (took.Failed fail.OutOfMemory) watches =
       all_still (took.Failed fail.OutOfMemory) watches.2 (ap (λ (s : LinkState). s.given) watches.1)
       refl watches
-  still_on (took.Failed (fail.Error error)) (front.Stirs.had_sent some same kept is) =
+  still_on replay (took.Failed (fail.Error error)) (front.Stirs.had_sent some same kept is) =
       all_still (took.Failed (fail.Error error)) kept (ap (λ (s : LinkState). s.given) same) refl
       (front.Stirs.had_sent some same kept is)
-  still_on (took.Failed (fail.Error error)) (front.Stirs.sends came none gave kept is) =
+  still_on replay (took.Failed (fail.Error error)) (front.Stirs.sends came none gave kept is) =
       whole_still came (took.Failed (fail.Error error))
       (kept ∙ ap (λ (xs : List ℕ). xs ++ came) (sym none)) (gave_given before after came gave) refl
       (front.Stirs.sends came none gave kept is)
-  still_on (took.Failed (fail.Error error)) (front.Stirs.ends none ends kept is) =
+  still_on replay (took.Failed (fail.Error error)) (front.Stirs.ends none ends kept is) =
       all_still (took.Failed (fail.Error error)) kept ends.given refl
       (front.Stirs.ends none ends kept is)
-  still_on (took.Failed (fail.Error error)) (front.Stirs.link_failed fault none fails kept is) =
+  still_on replay (took.Failed (fail.Error error)) (front.Stirs.link_failed fault none fails kept is) =
       all_still (took.Failed (fail.Error error)) kept fails.given refl
       (front.Stirs.link_failed fault none fails kept is)
 
 -- a call in either mode
 pub rest_on : (before after : LinkState) (given body ahead left : List ℕ) (old : BegunRequest)
-    (new : State) (answer : Took (List ℕ × Bool)) (idle : Bool)
+    (new : State) (replay : Replay) (answer : Took (List ℕ × Bool)) (idle : Bool)
     → (idle && is_done old.body ≡ false → ReadsPiece before after old.body new ahead left answer)
     → (idle && is_done old.body ≡ true → Watches before after ahead left answer)
     → (idle && is_done old.body ≡ true → new ≡ old.body)
-    → IsInBody given body ahead old
-    → ReadsRest before after given body ahead left (idle && is_done old.body) (moved old new answer)
-    (plain answer)
-rest_on before after given body ahead left old new answer idle reads watches stays begins =
+    → (Keeps body old.replay → KeepsPiece body answer replay) → IsInBody given body ahead old
+    → ReadsRest before after given body ahead left (idle && is_done old.body)
+    (moved old new replay answer) (plain answer)
+rest_on before after given body ahead left old new replay answer idle reads watches stays keeps
+    begins =
     elim (cases_Bool (idle && is_done old.body)) [
       | inl still ↦
           rw (still, stays still)
           (still_on before after given body ahead left old begins
           (both_true idle (is_done old.body) still)
-          answer (watches still))
+          replay answer (watches still))
       | inr open_mode ↦
           rw open_mode
-          (body_on before after given body ahead left old new begins answer (reads open_mode))
+          (body_on before after given body ahead left old new begins replay answer
+          (reads open_mode) (keeps begins.kept))
     ]
   where
     both_true : (a b : Bool) → a && b ≡ true → b ≡ true

@@ -3,6 +3,7 @@ pub mod Front
 pub mod Generated
 pub mod HeadLent
 pub mod Reading
+pub mod Replay
 pub mod Response
 pub mod Session
 pub mod Summary

@@ -1,6 +1,6 @@
 -- How far the request of a session has come, and what each call says of all that its client gave
 -- since the session began (RFC 9112, sections 2, 3, 6 and 9).
-use Rattle.std.specs.Prelude.{◌≡◌, ℕ, ◌<◌, ◌≤◌, ◌==◌, Bool, true, false, not, ◌&&◌, ◌||◌, ◌⊎◌, List, [], ◌∷◌, ◌++◌, length, drop, min, Option, Some, None, ⊤}
+use Rattle.std.specs.Prelude.{◌≡◌, ℕ, ◌<◌, ◌≤◌, Bool, true, false, not, ◌⊎◌, List, [], ◌∷◌, ◌++◌, length, drop, min, Option, Some, None, ⊤}
 use Rattle.relay_tasks.specs.declared.context.Context.{Context}
 use Rattle.relay_tasks.specs.declared.error.Error.{Error}
 use Rattle.relay_tasks.specs.declared.error.ErrorSource.TheVariants.{Downstream}
@@ -21,6 +21,10 @@ use Rattle.relay_session.specs.Front.{link_fault, client_closed, body_broken, Ga
 use Rattle.relay_session.specs.declared.reading.Reading.{Reading}
 use Rattle.relay_session.specs.declared.reading.Reading.TheVariants as reading
 use Rattle.relay_session.specs.declared.reading.BegunRequest.{BegunRequest}
+use Rattle.relay_session.specs.declared.replay.Replay.{Replay}
+use Rattle.relay_session.specs.declared.replay.Replay.TheVariants as replay
+use Rattle.relay_session.specs.Replay as kept
+use Rattle.relay_session.specs.Replay.{Keeps}
 
 -- ---- what a reading shows
 
@@ -49,17 +53,35 @@ abbrev pub received : Reading → ℕ
 received reading.Head = 0
 received (reading.Body request) = request.received
 
--- the request stands as it did behind its head: no byte of the body was given out, and the body has
--- ended only where the head says so
-abbrev pub is_unread : Reading → Bool
-is_unread reading.Head = false
-is_unread (reading.Body request) =
-    (request.received == 0) && (not (is_done request.body) || ends_with_head request.framing)
+-- what is kept of the body, to be sent again
+abbrev pub replay_of : Reading → Replay
+replay_of reading.Head = replay.Kept []
+replay_of (reading.Body request) = request.replay
+
+-- the reading with that in its place
+abbrev pub with_replay : Reading → Replay → Reading
+with_replay reading.Head kept = reading.Head
+with_replay (reading.Body request) kept = reading.Body (record request { replay = kept })
+
+-- a head was read, and all bytes of the body that were given out are kept
+abbrev pub is_kept : Reading → Bool
+is_kept reading.Head = false
+is_kept (reading.Body request) = kept.is_kept request.replay
+
+-- a head was read, and bytes of the body were given out that are kept no longer
+abbrev pub is_truncated : Reading → Bool
+is_truncated reading.Head = false
+is_truncated (reading.Body request) = not (kept.is_kept request.replay)
 
 -- a request whose head was just read
 abbrev pub begun : RequestHead → Framing → BegunRequest
-begun head framing =
-    record { head = head; framing = framing; body = first_state framing; received = 0 }
+begun head framing = record {
+  head = head;
+  framing = framing;
+  body = first_state framing;
+  received = 0;
+  replay = replay.Kept [];
+}
 
 -- ---- the request so far
 
@@ -71,6 +93,7 @@ pub record IsInBody (given body ahead : List ℕ) (request : BegunRequest) : Typ
   pub has : HasRequest given head request.framing len
   pub so_far : SoFar request.framing (drop len given) body request.body ahead
   pub counted : request.received ≡ min (length body) last_count
+  pub kept : Keeps body request.replay
 
 -- how far the request has come, where these bytes were given since the session began, those that
 -- were ahead then first, these bytes of the body were given out, and these bytes are ahead

@@ -4,7 +4,7 @@ use Rattle.relay_tasks.specs.Head.{RequestHead}
 use Rattle.relay_h1.specs.declared.framing.Framing.{Framing}
 use Rattle.relay_h1.specs.Verdict.{HasRequest}
 use Rattle.relay_session.specs.Asked.{request_of, unread, lets_ask}
-use Rattle.relay_session.specs.Reading.{is_body_done, is_unread}
+use Rattle.relay_session.specs.Reading.{is_body_done, is_kept}
 use Rattle.relay_session.specs.Response.{is_unqueued}
 use Rattle.relay_session.specs.declared.reading.Reading.{Reading}
 use Rattle.relay_session.specs.declared.reading.Reading.TheVariants as reading
@@ -36,7 +36,7 @@ AnswersTo (Some head) old new = new ≡ record old { request = request_of head }
 abbrev pub lets_ask_again : HttpSession → Bool
 lets_ask_again session = is_body_done session.reading && lets_ask session.writing.request
 
--- the session stands as it did behind its head, so that another attempt may begin with it: nothing
--- of the body was given out, and of the response no more than informational heads was written
-abbrev pub is_as_begun : HttpSession → Bool
-is_as_begun session = is_unread session.reading && is_unqueued session.writing
+-- another attempt may begin with the session: what was given out of the body is kept, and of the
+-- response no more than informational heads was written
+abbrev pub may_begin_again : HttpSession → Bool
+may_begin_again session = is_kept session.reading && is_unqueued session.writing

@@ -6,6 +6,7 @@ mod batch;
 mod front;
 mod generated;
 mod reading;
+mod replay;
 mod session;
 mod summary;
 mod task_text;

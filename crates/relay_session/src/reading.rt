@@ -1,6 +1,6 @@
 //! How the request of a client is read: its head, and its body piece by piece (RFC 9112, sections
 //! 2, 3, 6 and 7).
-ghost use Rattle.std.specs.Prelude.{◌≡◌, ◌↔◌, ℕ, List, [], ◌&&◌, ◌||◌, ◌==◌, not, ◌++◌, true, false, length, drop, min, None, Some, IsSome, IsTrue, IfOk, IsOkUnless};
+ghost use Rattle.std.specs.Prelude.{◌≡◌, ◌↔◌, ◌<◌, ◌≤◌, ◌⊎◌, ℕ, List, [], ◌&&◌, ◌||◌, ◌==◌, not, ◌++◌, OnOk, OnErr, true, false, length, drop, min, None, Some, IsSome, IsTrue, IfOk, IsOkUnless};
 ghost use Rattle.std.specs.Borrow.{sem};
 ghost use Rattle.relay_tasks.specs.Head.{RequestHead};
 ghost use Rattle.relay_links.specs.Count.{last_count};
@@ -11,9 +11,11 @@ ghost use Rattle.relay_h1.specs.Verdict.{HasRequest};
 ghost use Rattle.relay_session.specs.Front.{Watches};
 ghost use Rattle.relay_session.specs.HeadLent.{LendsHead};
 ghost use Rattle.relay_session.specs.Summary.{without_body_fields};
-ghost use Rattle.relay_session.specs.Reading.{head_of, with_head, is_body_done, is_body_empty, is_unread, received, begun, RequestSoFar, IsInBody, IsWhole, IsItem, ReadsOn, ReadsRest, ReadsLink, EndsBy};
+ghost use Rattle.relay_session.specs.Replay.{most_kept, retry_buffer};
+ghost use Rattle.relay_session.specs.Reading.{head_of, with_head, with_replay, replay_of, is_body_done, is_body_empty, is_kept, is_truncated, received, begun, RequestSoFar, IsInBody, IsWhole, IsItem, ReadsOn, ReadsRest, ReadsLink, EndsBy};
 
 use crate::front::{Front, ends_with_head};
+use crate::replay::Replay;
 use bytes::Bytes;
 use http_header::{CONTENT_LENGTH, TRANSFER_ENCODING};
 use relay_h1::{BodyReader, Framing, request_framing};
@@ -37,6 +39,8 @@ pub(crate) struct BegunRequest {
     body: BodyReader,
     // The bytes of the body that were given out, up to the last u64.
     received: u64,
+    // What is kept of them, to be sent again.
+    replay: Replay,
 }
 
 impl Reading {
@@ -49,7 +53,7 @@ impl Reading {
     }
 
     /// A request whose head was read, before its body is read.
-    pub(crate) fn of_request(head: RequestHeader, framing: Framing) -> Reading
+    pub(crate) fn of_request(alloc: Global, head: RequestHeader, framing: Framing) -> Reading
         ensures value { result ≡ Reading.Body (begun head framing) }
         ensures starts { (given : List ℕ) (len : ℕ) → HasRequest given head framing len
             → RequestSoFar given [] (drop len given) result }
@@ -61,6 +65,7 @@ impl Reading {
             framing,
             body: BodyReader::new(framing),
             received: 0,
+            replay: Replay::new(alloc),
         })
     }
 
@@ -85,7 +90,7 @@ impl Reading {
         }
         match client.read_head(alloc) {
             Took::Item((head, _ends)) => {
-                *self = begun(head);
+                *self = begun(alloc, head);
                 Took::Item(())
             }
             Took::More => Took::More,
@@ -216,17 +221,43 @@ impl Reading {
         }
     }
 
-    /// Whether the request stands as it did behind its head: no byte of the body was given out, and
-    /// the body has ended only where the head says so.
-    pub(crate) fn is_as_begun(&self) -> bool
-        ensures { result ≡ is_unread self.now }
+    /// Whether all bytes of the body that were given out are kept, so that they can be sent again.
+    pub(crate) fn is_kept(&self) -> bool
+        ensures { result ≡ is_kept self.now }
     {
         match self {
             Reading::Head => false,
-            Reading::Body(request) => {
-                request.received == 0
-                    && (!request.body.is_done() || ends_with_head(request.framing))
-            }
+            Reading::Body(request) => request.replay.is_kept(),
+        }
+    }
+
+    /// Whether bytes of the body were given out that are kept no longer.
+    pub(crate) fn is_truncated(&self) -> bool
+        ensures value { result ≡ is_truncated self.now }
+        ensures over { (given body ahead : List ℕ) → RequestSoFar given body ahead self.now
+            → result ≡ true → (most_kept < length body) ⊎ (replay_of self.now ≡ Replay.Lost) }
+        ensures within { (given body ahead : List ℕ) → RequestSoFar given body ahead self.now
+            → result ≡ false → length body ≤ most_kept }
+    {
+        match self {
+            Reading::Head => false,
+            Reading::Body(request) => !request.replay.is_kept(),
+        }
+    }
+
+    /// The bytes of the body that were given out and are kept, as one run; they stay kept. None
+    /// where there are none.
+    ///
+    /// Fails out of memory alone; then they are kept no longer.
+    pub(crate) fn get_retry_buffer(&mut self, alloc: Global) -> Result<Option<Bytes>>
+        ensures ok { IfOk result (λ bytes. bytes ≡ retry_buffer (replay_of self.old)) }
+        ensures memory { IsOkUnless result Fail.OutOfMemory }
+        ensures same { OnOk result (self.new ≡ self.old) }
+        ensures lost { OnErr result (self.new ≡ with_replay self.old Replay.Lost) }
+    {
+        match self {
+            Reading::Head => Ok(None),
+            Reading::Body(request) => request.replay.joined(alloc),
         }
     }
 
@@ -252,7 +283,7 @@ fn clear_body_fields(head: &mut RequestHeader)
 }
 
 /// A request with that head, which has a framing, before its body is read.
-fn begun(head: RequestHeader) -> Reading
+fn begun(alloc: Global, head: RequestHeader) -> Reading
     requires { IsSome (request_framing head) }
     ensures { (framing : Framing) → request_framing head ≡ Some framing
         → result ≡ Reading.Body (begun head framing) }
@@ -260,7 +291,7 @@ fn begun(head: RequestHeader) -> Reading
     let Ok(framing) = request_framing(&head) else {
         unreachable!()
     };
-    Reading::of_request(head, framing)
+    Reading::of_request(alloc, head, framing)
 }
 
 impl BegunRequest {
@@ -283,6 +314,7 @@ impl BegunRequest {
         match client.read_piece(alloc, &mut self.body, idle) {
             Took::Item((piece, _ends)) => {
                 self.received = self.received.saturating_add(piece.len() as u64);
+                self.replay.keep(&piece);
                 Took::Item(piece)
             }
             Took::More => Took::More,

@@ -1,6 +1,6 @@
 //! The session of one request with its client, without the client's link (RFC 9112, section 9.2):
 //! the request that is read, and the response that answers it.
-ghost use Rattle.std.specs.Prelude.{◌≡◌, ◌↔◌, ℕ, List, [], ◌∷◌, ◌++◌, take, drop, ◌&&◌, ◌==◌, not, true, false, length, min, Some, None, IsSome, IsTrue, IfOk, IfErr, OnOk, OnErr, IsOkUnless};
+ghost use Rattle.std.specs.Prelude.{◌≡◌, ◌↔◌, ℕ, List, [], ◌∷◌, ◌++◌, take, drop, ◌&&◌, ◌==◌, ◌<◌, ◌≤◌, ◌⊎◌, not, true, false, length, min, Some, None, IsSome, IsTrue, IfOk, IfErr, OnOk, OnErr, IsOkUnless};
 ghost use Rattle.std.specs.Borrow.{sem};
 ghost use Rattle.relay_tasks.specs.declared.task.HttpTask.{HttpTask};
 ghost use Rattle.relay_tasks.specs.Head.{RequestHead, IsStatus};
@@ -12,8 +12,10 @@ ghost use Rattle.relay_session.specs.Front.{Watches, ends_with_head};
 ghost use Rattle.relay_session.specs.declared.writing.Outgoing.TheVariants.{Open};
 ghost use Rattle.relay_session.specs.HeadLent.{LendsSessionHead};
 ghost use Rattle.relay_session.specs.Asked.{request_of, unread};
-ghost use Rattle.relay_session.specs.Session.{AnswersRead, AnswersTo, is_as_begun, lets_ask_again};
-ghost use Rattle.relay_session.specs.Reading.{head_of, with_head, is_body_done, is_body_empty, received, RequestSoFar, IsWhole, IsItem, ReadsOn, ReadsRest, ReadsLink, EndsBy};
+ghost use Rattle.relay_session.specs.Session.{AnswersRead, AnswersTo, may_begin_again, lets_ask_again};
+ghost use Rattle.relay_session.specs.Replay.{most_kept, retry_buffer};
+ghost use Rattle.relay_session.specs.declared.replay.Replay.TheVariants as Replay;
+ghost use Rattle.relay_session.specs.Reading.{head_of, with_head, with_replay, replay_of, is_body_done, is_body_empty, is_kept, is_truncated, received, RequestSoFar, IsWhole, IsItem, ReadsOn, ReadsRest, ReadsLink, EndsBy};
 ghost use Rattle.relay_session.specs.Summary.{without_body_fields, request_summary};
 ghost use Rattle.relay_session.specs.TaskWire.{refusal};
 ghost use Rattle.relay_session.specs.Generated.{answer_tasks, body_answer_tasks, AnswersText, IsFaultOrMemory};
@@ -73,7 +75,7 @@ impl HttpSession {
     {
         let request = Request::of(&head);
         HttpSession {
-            reading: Reading::of_request(head, framing),
+            reading: Reading::of_request(alloc, head, framing),
             writing: Writing::new(alloc, request),
         }
     }
@@ -260,14 +262,42 @@ impl HttpSession {
         self.reading.is_body_done() && self.writing.lets_ask()
     }
 
-    /// Whether the session stands as it did behind its head, so that another attempt at the request
-    /// may begin with it: no byte of the body was given out, and the body has ended only where the
-    /// head says so; no final head was queued, nothing waits, and no write failed. Informational
-    /// heads may have been written (RFC 9110, sections 9.2.2 and 15.2).
-    pub fn is_as_begun(&self) -> bool
-        ensures { result ≡ is_as_begun self.now }
+    /// Whether another attempt at the request may begin with the session: all bytes of the body that
+    /// were given out are kept; no final head was queued, nothing waits, and no write failed.
+    /// Informational heads may have been written (RFC 9110, sections 9.2.2 and 15.2).
+    pub fn may_begin_again(&self) -> bool
+        ensures { result ≡ may_begin_again self.now }
     {
-        self.reading.is_as_begun() && self.writing.is_as_begun()
+        self.reading.is_kept() && self.writing.is_as_begun()
+    }
+
+    /// The bytes of the body that were given out so far, for another attempt to send them first;
+    /// they stay kept. None where there are none, or where they are kept no longer.
+    ///
+    /// Fails out of memory alone; then they are kept no longer.
+    pub fn get_retry_buffer(&mut self, alloc: Global) -> Result<Option<Bytes>>
+        ensures ok { IfOk result (λ bytes. bytes ≡ retry_buffer (replay_of self.old.reading)) }
+        ensures memory { IsOkUnless result Fail.OutOfMemory }
+        ensures same { OnOk result (self.new ≡ self.old) }
+        ensures lost { OnErr result
+            (self.new.reading ≡ with_replay self.old.reading Replay.Lost) }
+        ensures response { self.new.writing ≡ self.old.writing }
+    {
+        self.reading.get_retry_buffer(alloc)
+    }
+
+    /// Whether bytes of the body were given out that are kept no longer: they are more than 65,536,
+    /// or memory was wanted to keep them.
+    pub fn retry_buffer_truncated(&self) -> bool
+        ensures value { result ≡ is_truncated self.now.reading }
+        ensures over { (given body ahead : List ℕ) → RequestSoFar given body ahead self.now.reading
+            → result ≡ true → (most_kept < length body)
+            ⊎ (replay_of self.now.reading ≡ Replay.Lost) }
+        ensures within { (given body ahead : List ℕ)
+            → RequestSoFar given body ahead self.now.reading
+            → result ≡ false → length body ≤ most_kept }
+    {
+        self.reading.is_truncated()
     }
 
     /// How many bytes of the body were given out; the count stands still at its last value.

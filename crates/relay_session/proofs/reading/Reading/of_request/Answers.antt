@@ -5,7 +5,7 @@ use Rattle.relay_session.proofs.reading.Reading.of_request.Goals as goal
 
 pub returns-clause-starts : goal.returns-clause-starts
 returns-clause-starts c = λ given len has.
-    rw c.new.ensures.place (first_in_body given c.args.head c.args.framing len has)
+    rw (c.new.ensures.place, c.new-2.ensures) (first_in_body given c.args.head c.args.framing len has)
 
 pub returns-clause-whole : goal.returns-clause-whole
 returns-clause-whole c =
