@@ -1,6 +1,6 @@
 //! One exchange between a client and an HTTP/1 link to a peer (RFC 9112, sections 6, 7 and 9.3).
 ghost use Rattle.std.specs.declared.alloc.Global.{Global};
-ghost use Rattle.std.specs.Prelude.{◌≡◌, ◌↔◌, Bool, ℕ, List, [], None, false, IfOk, IfErr, option_to_list};
+ghost use Rattle.std.specs.Prelude.{◌≡◌, ◌↔◌, Bool, ℕ, List, [], None, false, IfOk, IfErr, IsOkUnless, OnOk};
 ghost use Rattle.relay_tasks.specs.Error.{IsMemoryOr};
 ghost use Rattle.relay_links.specs.Link.{LinkState, IsHandedOut};
 ghost use Rattle.relay_h1.specs.Framing.{request_framing};
@@ -8,9 +8,9 @@ ghost use Rattle.relay_h1.specs.Verdict.{refused_from};
 ghost use Rattle.relay_core.specs.Asked.{WaitRose};
 ghost use Rattle.relay_core.specs.Causes.{says_failed};
 ghost use Rattle.relay_core.specs.Past.{Origin};
-ghost use Rattle.relay_session.specs.Reading.{head_of};
-ghost use Rattle.relay_sides.specs.Client.{BeginsBehind, end_put};
-ghost use Rattle.relay_exchange.specs.Exchange.{put_first};
+ghost use Rattle.relay_core.specs.Piece.{put_of};
+ghost use Rattle.relay_session.specs.Reading.{head_of, is_body_done};
+ghost use Rattle.relay_sides.specs.Client.{BeginsBehind, put_again};
 ghost use Rattle.relay_attempt.specs.Bound.{CountsOn, HasCounted};
 ghost use Rattle.relay_attempt.specs.Passed.{Passed};
 ghost use Rattle.relay_attempt.specs.Head.{IsRefusedFor, link_of, may_keep};
@@ -23,7 +23,7 @@ use relay_links::{ByteLink, Schedule};
 use relay_peer::PeerSide;
 use relay_session::{Front, HttpSession};
 use relay_sides::{ClientSide, Filtered, is_head_request};
-use relay_tasks::{Context, ErrorSource, Fail, Pause, RequestHeader};
+use relay_tasks::{Context, ErrorSource, Fail, Pause, RequestHeader, Result};
 use std::alloc::Global;
 
 /// A request whose head was read, and its response, over one link to a peer.
@@ -42,15 +42,16 @@ impl<L: ByteLink> H1Exchange<L> {
     /// An exchange for the session's request over that link, which was just handed out. `head` is
     /// the head that is sent, which may differ from the client's in all: the request is framed as
     /// it says, and the response towards the client as the client's says. Where they frame alike
-    /// a request does not end short, and no task of a response is refused. Where the client's head
-    /// ended the body, its end is put before any turn, so that it is sent as `head` frames it.
+    /// a request does not end short, and no task of a response is refused. What the session has kept
+    /// of the body is put before any turn, as one piece, and with it the end of a body that has
+    /// ended: so it is sent from its first byte on, as `head` frames it.
     ///
     /// `InvalidHTTPHeader` of the source `Internal`, about `BadFraming`: exactly where
-    /// `request_framing` refuses the head. Then, and where memory is wanted, the link comes back,
-    /// and the session is dropped.
+    /// `request_framing` refuses the head. Then, and where memory is wanted, also to join what was
+    /// kept, the link comes back, and the session is dropped.
     pub fn begin(
         alloc: Global,
-        session: HttpSession,
+        mut session: HttpSession,
         link: L,
         head: RequestHeader,
     ) -> std::result::Result<H1Exchange<L>, Unbegun<L>>
@@ -71,20 +72,26 @@ impl<L: ByteLink> H1Exchange<L> {
     {
         let of_head = is_head_request(&head);
         let mut peer = PeerSide::new(alloc, link);
-        match peer.write_request_header(head) {
-            Ok(()) => {
-                let body_done = session.is_body_done();
-                let client = ClientSide::new(alloc, session);
-                let upstream = Filtered::new(peer, of_head);
-                let end = end_in(body_done);
-                let exchange = Exchange::begin(alloc, client, body_done, upstream, end);
-                Ok(H1Exchange { exchange })
-            }
-            Err(why) => Err(Unbegun {
+        if let Err(why) = peer.write_request_header(head) {
+            return Err(Unbegun {
                 link: peer.into_link(),
                 why,
-            }),
+            });
         }
+        let first = match first_piece(alloc, &mut session) {
+            Ok(first) => first,
+            Err(why) => {
+                return Err(Unbegun {
+                    link: peer.into_link(),
+                    why,
+                });
+            }
+        };
+        let body_done = session.is_body_done();
+        let client = ClientSide::new(alloc, session);
+        let upstream = Filtered::new(peer, of_head);
+        let exchange = Exchange::begin(alloc, client, body_done, upstream, Some(first));
+        Ok(H1Exchange { exchange })
     }
 
     /// One turn, as in `Exchange::turn`: one write of the request's head, or one branch of the
@@ -197,16 +204,22 @@ impl<L> H1Exchange<L> {
     }
 }
 
-/// What is put of a body before anything is read of it: its end, where its head ended it.
-fn end_in(body_done: bool) -> Option<Piece>
-    ensures { option_to_list (put_first result) ≡ end_put body_done }
+/// What is put of a body before more is read of it: what the session has kept of it, with the end,
+/// where the body has ended.
+///
+/// Fails out of memory alone.
+fn first_piece(alloc: Global, session: &mut HttpSession) -> Result<Piece>
+    ensures ok { IfOk result (λ piece. put_of false piece ≡ put_again session.old) }
+    ensures end { IfOk result (λ piece. piece.upstream_end
+        ≡ is_body_done session.old.reading) }
+    ensures same { OnOk result (session.new ≡ session.old) }
+    ensures memory { IsOkUnless result Fail.OutOfMemory }
 {
-    if body_done {
-        return Some(Piece {
-            bytes: None,
-            upstream_end: true,
-            client_end: true,
-        });
-    }
-    None
+    let kept = session.get_retry_buffer(alloc)?;
+    let done = session.is_body_done();
+    Ok(Piece {
+        bytes: kept,
+        upstream_end: done,
+        client_end: done,
+    })
 }

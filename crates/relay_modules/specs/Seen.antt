@@ -13,6 +13,7 @@ use Rattle.relay_session.specs.declared.session.HttpSession.{HttpSession}
 use Rattle.relay_session.specs.declared.task_text.Place.{Place}
 use Rattle.relay_session.specs.declared.writing.Writing.{Writing}
 use Rattle.relay_session.specs.Generated.{IsFaultOrMemory}
+use Rattle.relay_session.specs.Reading.{is_truncated}
 use Rattle.relay_session.specs.Response.{AreQueued, FailsWithin, FailsBatch, has_head}
 use Rattle.relay_modules.specs.declared.seen.Seen.{Seen}
 

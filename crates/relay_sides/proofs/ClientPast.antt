@@ -1,12 +1,18 @@
 -- What passed through the client's side: how it begins, and how lists of tasks join.
-use Rattle.std.proofs.Common.{◌≡◌, ℕ, ◌≤◌, Bool, true, false, List, [], ◌∷◌, ◌++◌, Option, None, refl, sym, ◌∙◌, ap, append_assoc, inr, arith}
-use Rattle.std.specs.Prelude.{IsSome, IsTrue}
+use Rattle.std.proofs.Common.{◌≡◌, ℕ, ◌≤◌, Bool, true, false, List, [], ◌∷◌, ◌++◌, length, Option, Some, None, refl, sym, ◌∙◌, ap, subst, append-nil, append_assoc, inl, inr, arith}
+use Rattle.std.proofs.lemmas.Bool.Decides.{nat_tests}
+use Rattle.std.specs.Prelude.{◌==◌, IsSome, IsTrue}
 use Rattle.std.specs.List.{list_any}
 use Rattle.relay_tasks.specs.declared.task.HttpTask.{HttpTask}
+use Rattle.relay_tasks.specs.declared.task.HttpTask.TheVariants as task
 use Rattle.relay_tasks.specs.Task.{is_end}
 use Rattle.relay_links.specs.Count.{Rose}
 use Rattle.relay_links.specs.Link.{LinkState}
-use Rattle.relay_session.specs.Reading.{RequestSoFar, IsWhole, head_of, is_body_done}
+use Rattle.relay_session.specs.Reading.{RequestSoFar, IsWhole, head_of, is_body_done, is_kept, replay_of}
+use Rattle.relay_session.specs.Replay as held
+use Rattle.relay_session.specs.Replay.{Keeps, retry_buffer, some_bytes}
+use Rattle.relay_session.specs.declared.replay.Replay.{Replay}
+use Rattle.relay_session.specs.declared.replay.Replay.TheVariants as replay
 use Rattle.relay_session.specs.declared.reading.Reading.{Reading}
 use Rattle.relay_session.specs.declared.reading.Reading.TheVariants as reading
 use Rattle.relay_session.specs.declared.session.HttpSession.{HttpSession}
@@ -20,7 +26,7 @@ use Rattle.relay_session.proofs.ReadingLemmas.{body_whole}
 use Rattle.relay_tasks.specs.declared.fault.Fault.{Fault}
 use Rattle.relay_core.specs.Past.{Origin, DownPast}
 use Rattle.relay_peer.specs.Body.{bytes_of, body_of}
-use Rattle.relay_sides.specs.Client.{HasPassed, HaveSome, FailsWrite, BeginsBehind, begun_past, end_put}
+use Rattle.relay_sides.specs.Client.{HasPassed, HaveSome, FailsWrite, BeginsBehind, begun_past, first_put, put_again}
 use Rattle.relay_peer.proofs.FaultLemmas.{Grew, among_still}
 
 -- an output that is open has no fault
@@ -36,27 +42,55 @@ stands_at now (outgoing.Open queue) tasks taken holds =
 stands_at now (outgoing.Broken fault) tasks taken holds =
     ap (λ (t : Sent). t.place) holds.1.wire.is
 
+-- bytes that are kept are one piece, with the end or without
+first_piece : (b : ℕ) (bytes : List ℕ) (done : Bool)
+    → first_put (Some (b ∷ bytes)) done ≡ task.Body (Some (b ∷ bytes)) done ∷ []
+first_piece b bytes done =
+    let some : (length (b ∷ bytes) == 0) ≡ false = grind (arith, nat_tests) in
+    rw some refl
+
 -- an end that is put first is put exactly where the body has ended
-pub end_is : (done : Bool) → list_any is_end (end_put done) ≡ done
-end_is true = refl
-end_is false = refl
+pub end_is : (kept : Option (List ℕ)) (done : Bool) → list_any is_end (first_put kept done) ≡ done
+end_is None true = refl
+end_is None false = refl
+end_is (Some []) true = refl
+end_is (Some []) false = refl
+end_is (Some (b ∷ bytes)) true = rw (first_piece b bytes true) refl
+end_is (Some (b ∷ bytes)) false = rw (first_piece b bytes false) refl
 
--- it brings no bytes
-end_empty : (done : Bool) → body_of (end_put done) ≡ []
-end_empty true = refl
-end_empty false = refl
+-- what is put first of a body that is kept brings that
+first_body : (bytes : List ℕ) (done : Bool) → body_of (first_put (some_bytes bytes) done) ≡ bytes
+first_body [] true = refl
+first_body [] false = refl
+first_body (b ∷ bytes) done = rw (first_piece b bytes done) (append-nil (b ∷ bytes))
 
--- and it is an end
-end_some : (done : Bool) → HaveSome (end_put done)
-end_some true = (inr refl, tt)
-end_some false = tt
+-- and it has some, or is an end
+first_some : (bytes : List ℕ) (done : Bool) → HaveSome (first_put (some_bytes bytes) done)
+first_some [] true = (inr refl, tt)
+first_some [] false = tt
+first_some (b ∷ bytes) done = rw (first_piece b bytes done) (inl (omega arith), tt)
+
+-- what is kept is the body so far
+kept_body : (given body ahead : List ℕ) (now : Reading) → RequestSoFar given body ahead now
+    → is_kept now ≡ true → retry_buffer (replay_of now) ≡ some_bytes body
+kept_body given body ahead reading.Head so_far kept = absurd (cc)
+kept_body given body ahead (reading.Body request) so_far kept =
+    of request.replay so_far.kept kept
+  where
+    of : (now : Replay) → Keeps body now → held.is_kept now ≡ true
+        → retry_buffer now ≡ some_bytes body
+    of (replay.Kept bytes) keeps is = ap some_bytes keeps.0
+    of replay.Truncated keeps is = absurd (cc)
+    of replay.Lost keeps is = absurd (cc)
 
 -- a side that begins behind the bytes that came
 pub begins : (s : Origin) (came : List ℕ) (link : LinkState) (ahead : List ℕ)
     (session : HttpSession) → BeginsBehind s came link ahead session
-    → HasPassed s (begun_past came (end_put (is_body_done session.reading))) link ahead session false
-    false None
-begins s came link ahead session b = record {
+    → HasPassed s (begun_past came (put_again session)) link ahead session false false None
+begins s came link ahead session b =
+    let done = is_body_done session.reading in
+    let kept = kept_body (s.ahead ++ came) b.body ahead session.reading b.request b.kept in
+    record {
   client = record {
     came = b.gave;
     written = b.written;
@@ -68,13 +102,15 @@ begins s came link ahead session b = record {
     has = b.has;
     has_head = b.has_head;
     answers = b.answers;
-    body = [];
+    body = b.body;
     request = b.request;
-    joined = end_empty (is_body_done session.reading);
-    some = end_some (is_body_done session.reading);
-    ended = λ is. sym (end_is (is_body_done session.reading)) ∙ is;
-    whole = λ done. end_is (is_body_done session.reading) ∙ done;
-    headed = λ has_none. b.done ∙ has_none;
+    joined = subst (λ (kept : Option (List ℕ)). body_of (first_put kept done) ≡ b.body) (sym kept)
+        (first_body b.body done);
+    some = subst (λ (kept : Option (List ℕ)). HaveSome (first_put kept done)) (sym kept)
+        (first_some b.body done);
+    ended = λ is. sym (end_is (retry_buffer (replay_of session.reading)) done) ∙ is;
+    whole = λ over. end_is (retry_buffer (replay_of session.reading)) done ∙ over;
+    headed = b.headed;
     told_whole = b.whole;
     response = b.response;
     broken = λ fault is.

@@ -22,7 +22,8 @@ use Rattle.relay_h1.specs.Body.{open_text, broken}
 use Rattle.relay_h1.specs.Verdict.{HasRequest}
 use Rattle.relay_session.specs.Asked.{request_of}
 use Rattle.relay_session.specs.Front.{link_fault, client_closed, client_sent_more, body_broken, ends_with_head}
-use Rattle.relay_session.specs.Reading.{head_of, is_body_done, RequestSoFar, SaysBody, IsWhole}
+use Rattle.relay_session.specs.Reading.{head_of, is_body_done, is_kept, replay_of, RequestSoFar, SaysBody, IsWhole}
+use Rattle.relay_session.specs.Replay.{retry_buffer}
 use Rattle.relay_session.specs.Response.{Holds, AreQueued, FailsBatch, IsOpen, is_over, pending}
 use Rattle.relay_session.specs.TaskWire.{ends_short, first_refusal, refusal, wire}
 use Rattle.relay_session.specs.declared.session.HttpSession.{HttpSession}
@@ -31,6 +32,7 @@ use Rattle.relay_session.specs.declared.task_text.Place.TheVariants as place
 use Rattle.relay_session.specs.declared.writing.Outgoing.TheVariants as outgoing
 use Rattle.relay_core.specs.Down.{DownState}
 use Rattle.relay_core.specs.Past.{Origin, DownPast}
+use Rattle.relay_core.specs.Piece.{put_of}
 use Rattle.relay_core.specs.Pipe.{is_failure}
 use Rattle.relay_core.specs.declared.piece.Piece.{Piece}
 use Rattle.relay_core.specs.declared.told.Told.{Told}
@@ -158,8 +160,8 @@ pub record IsSide
   pub passed : HasPassed s p link ahead session done finished kept
   pub tasks : IsTold s (queued p) told
 
--- a session that begins behind these bytes of a client, whose head was read out of them: nothing of
--- the body was given out, and nothing was queued or written
+-- a session that begins behind these bytes of a client, whose head was read out of them: all bytes
+-- of the body that were given out are kept, and nothing was queued or written
 pub record BeginsBehind
     (s : Origin) (came : List ℕ) (link : LinkState) (ahead : List ℕ) (session : HttpSession)
     : Type 0 where
@@ -173,17 +175,25 @@ pub record BeginsBehind
   pub has_head : IsSome (head_of session.reading)
   pub own : head ≡ s.head
   pub answers : session.writing.request ≡ request_of head
-  pub request : RequestSoFar (s.ahead ++ came) [] ahead session.reading
-  pub done : is_body_done session.reading ≡ ends_with_head framing
-  pub whole : is_body_done session.reading ≡ true → IsWhole (s.ahead ++ came) [] ahead
+  pub body : List ℕ
+  pub request : RequestSoFar (s.ahead ++ came) body ahead session.reading
+  pub kept : is_kept session.reading ≡ true
+  pub headed : ends_with_head framing ≡ true → is_body_done session.reading ≡ true
+  pub whole : is_body_done session.reading ≡ true → IsWhole (s.ahead ++ came) body ahead
   pub response : Holds session.writing [] []
   pub output : session.writing.output ≡ outgoing.Open []
   pub tells : TellsSince s.read_faults s.write_faults link
 
--- what is put before anything is read of a body: its end, where its head ended it
-abbrev pub end_put : Bool → List HttpTask
-end_put true = task.Body None true ∷ []
-end_put false = []
+-- what is put before more is read of a body, of which that is kept: one piece, with the end, where
+-- the body has ended
+abbrev pub first_put : Option (List ℕ) → Bool → List HttpTask
+first_put kept done =
+    put_of false (record { bytes = kept; upstream_end = done; client_end = done })
+
+-- what a session puts first
+abbrev pub put_again : HttpSession → List HttpTask
+put_again session =
+    first_put (retry_buffer (replay_of session.reading)) (is_body_done session.reading)
 
 -- the past of a side that begins behind these bytes, when these pieces were put
 abbrev pub begun_past : List ℕ → List HttpTask → DownPast

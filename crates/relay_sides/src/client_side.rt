@@ -3,10 +3,10 @@
 ghost use Rattle.std.specs.Prelude.{◌≡◌, ◌&&◌, ◌||◌, ◌⊎◌, not, List, ℕ};
 ghost use Rattle.relay_links.specs.Link.{LinkState};
 ghost use Rattle.relay_core.specs.Past.{Origin};
-ghost use Rattle.relay_session.specs.Reading.{head_of, is_body_done};
+ghost use Rattle.relay_session.specs.Reading.{head_of};
 ghost use Rattle.relay_session.specs.Response.{is_over};
 ghost use Rattle.relay_session.specs.TaskWire.{ends_short};
-ghost use Rattle.relay_sides.specs.Client.{IsSide, BeginsBehind, begun_past, end_put, ClientBlames, ClientRefuses, CannotEnd, Queues, state_of, fault_in, piece_answer, told_read, failure_in_front};
+ghost use Rattle.relay_sides.specs.Client.{IsSide, BeginsBehind, begun_past, put_again, ClientBlames, ClientRefuses, CannotEnd, Queues, state_of, fault_in, piece_answer, told_read, failure_in_front};
 
 use bytes::Bytes;
 use relay_core::{Down, Piece, Told, UpKind};
@@ -35,15 +35,15 @@ pub struct ClientSide {
 
 impl ClientSide {
     /// The side over that session, whose head was read, with nothing told. Where the session begins
-    /// behind the bytes that came, so does the side, and the end of a body that its head ended was
-    /// put.
+    /// behind the bytes that came, so does the side: what is kept of the body was put, and its end,
+    /// where it has ended.
     pub fn new(alloc: Global, session: HttpSession) -> ClientSide
         ensures session { result.session ≡ session }
         ensures told { result.told ≡ Told.NOTHING }
         ensures begins { (s : Origin) (came : List ℕ) (link : LinkState) (ahead : List ℕ)
             → BeginsBehind s came link ahead session
-            → IsSide s (begun_past came (end_put (is_body_done session.reading))) link ahead
-            result.session result.told result.done result.finished result.broken }
+            → IsSide s (begun_past came (put_again session)) link ahead result.session result.told
+            result.done result.finished result.broken }
     {
         ClientSide {
             alloc,

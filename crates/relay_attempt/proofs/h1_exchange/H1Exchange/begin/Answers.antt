@@ -1,12 +1,14 @@
--- An exchange begins once its head was queued; it is not begun where the head is refused.
-use Rattle.std.proofs.Common.{Bool, false, ◌||◌, [], refl, sym, ap, subst, ◌∙◌}
+-- An exchange begins once its head was queued, with what is kept of the body; it is not begun where
+-- the head is refused.
+use Rattle.std.proofs.Common.{◌≡◌, Bool, false, ◌||◌, [], Some, refl, sym, ap, subst, ◌∙◌}
 use Rattle.std.proofs.lemmas.List.Elements.{All-nil}
 use Rattle.relay_tasks.specs.Head.{RequestHead}
 use Rattle.relay_links.specs.Link.{IsHandedOut}
-use Rattle.relay_session.specs.Reading.{is_body_done}
+use Rattle.relay_session.specs.Reading.{is_body_done, replay_of}
+use Rattle.relay_session.specs.Replay.{retry_buffer}
 use Rattle.relay_session.specs.declared.session.HttpSession.{HttpSession}
 use Rattle.relay_sides.specs.Client as client
-use Rattle.relay_sides.specs.Client.{begun_past, end_put}
+use Rattle.relay_sides.specs.Client.{BeginsBehind, begun_past, put_again}
 use Rattle.relay_sides.proofs.ClientPast.{end_is}
 use Rattle.relay_peer.specs.Peer as peer
 use Rattle.relay_peer.specs.Peer.{none_passed}
@@ -24,8 +26,8 @@ use Rattle.relay_attempt.proofs.TurnLemmas.{under_way, refused_as}
 use Rattle.relay_attempt.proofs.h1_exchange.H1Exchange.begin.Goals as goal
 
 -- an exchange whose head was queued has begun
-pub returns-in-Ok-clause-begins : goal.returns-in-Ok-clause-begins
-returns-in-Ok-clause-begins g c =
+pub returns-clause-begins : goal.returns-clause-begins
+returns-clause-begins g c =
     let state = g.L.ByteLink.state in
     let start_at = g.L.ByteLink.start in
     let down = c.new-client.result in
@@ -33,7 +35,9 @@ returns-in-Ok-clause-begins g c =
     let value = c.is_body_done-body_done.ensures.value in
     let done = ap (λ (x : HttpSession). is_body_done x.reading) c.new-client.ensures.session
     ∙ sym value in
-    let put = end_put (is_body_done c.args.session.reading) in
+    let session = c.first_piece.new.session in
+    let same : session ≡ c.args.session = c.in-Ok.ensures.same in
+    let put = put_again session in
     λ s came link ahead reused own none behind out used.
     let Begun : Exchange ClientSide (Filtered (PeerSide g.row.L.Denot)) → Type 0 = λ x.
     IsUnderWay state start_at s (record { came = came; written = []; got = []; sent = [] }) link
@@ -49,12 +53,13 @@ returns-in-Ok-clause-begins g c =
       };
     })
     (begun (DownHolds link ahead down s) (UpHolds state start_at up s) (Blames state start_at up s)
-    c.is_body_done-body_done.result (put_first c.end_in-end.result)
+    c.is_body_done-body_done.result (put_first (Some c.in-Ok.first))
     (client.state_of down.session down.told down.done down.finished down.broken)
     (state_over (peer.state_of up.inner) up.upgraded up.stopped up.told)
     (begun_past came put) none_passed
     (record {
-      down_holds = c.new-client.ensures.begins s came link ahead behind;
+      down_holds = c.new-client.ensures.begins s came link ahead
+          (subst (λ (x : HttpSession). BeginsBehind s came link ahead x) (sym same) behind);
       up_holds = subst
           (λ (u : Filtered (PeerSide g.row.L.Denot)). UpHolds state start_at u s none_passed)
           (sym c.new-upstream.ensures)
@@ -63,7 +68,7 @@ returns-in-Ok-clause-begins g c =
                 ∙ ap (λ (h : RequestHead). is_head_request h.method) own;
             given = [];
             withheld = [];
-            holds = c.in-Ok.ensures.begins s own none c.new-peer.ensures.fresh reused
+            holds = c.in_default.ensures.begins s own none c.new-peer.ensures.fresh reused
                 (subst (λ l. IsHandedOut (state l) (start_at l) reused)
                 (sym c.new-peer.ensures.link) out) used;
             is_read = refl;
@@ -73,8 +78,9 @@ returns-in-Ok-clause-begins g c =
             closes = refl;
             quiet = λ still. still;
           });
-      first_put = sym (c.end_in-end.ensures ∙ ap end_put value);
-      end_put = end_is (is_body_done c.args.session.reading) ∙ sym value;
+      first_put = sym (c.in-Ok.ensures.ok ∙ ap put_again (sym same));
+      end_put = end_is (retry_buffer (replay_of session.reading)) (is_body_done session.reading)
+          ∙ sym value;
       none_batched = refl;
       none_closing = refl;
       none_read = refl;
