@@ -4,7 +4,7 @@ use Rattle.std.specs.Prelude.{IsSome, Option}
 use Rattle.relay_tasks.specs.Head.{RequestHead, new_request}
 use Rattle.relay_tasks.specs.declared.log.LogEntry.{LogEntry}
 use Rattle.relay_tasks.specs.declared.task.HttpTask.{HttpTask}
-use Rattle.relay_session.specs.Reading.{RequestSoFar, head_of, is_body_done, is_body_empty, received, with_head}
+use Rattle.relay_session.specs.Reading.{RequestSoFar, head_of, is_body_done, is_body_empty, is_kept, received, with_head}
 use Rattle.relay_session.specs.Response.{IsOpen}
 use Rattle.relay_session.specs.declared.reading.Reading.{Reading}
 use Rattle.relay_session.specs.declared.reading.Reading.TheVariants as reading
@@ -141,6 +141,7 @@ module _ (given body ahead : List ℕ) where
         has = so_far.has;
         so_far = so_far.so_far;
         counted = so_far.counted;
+        kept = so_far.kept;
       }
 
   so_far_without : (r : Reading) (head : RequestHead)
@@ -153,6 +154,7 @@ module _ (given body ahead : List ℕ) where
         has = so_far.has;
         so_far = so_far.so_far;
         counted = so_far.counted;
+        kept = so_far.kept;
       }
 
   -- where nothing was read the request has come as far as before
@@ -179,6 +181,10 @@ received_with : (r : Reading) (head : RequestHead) → received (with_head r hea
 received_with reading.Head head = refl
 received_with (reading.Body request) head = refl
 
+kept_with : (r : Reading) (head : RequestHead) → is_kept (with_head r head) ≡ is_kept r
+kept_with reading.Head head = refl
+kept_with (reading.Body request) head = refl
+
 -- where nothing was read the body has ended if it had before
 pub reads_done : (first now : Seen) → ReadsNothing first now
     → is_body_done now.downstream.reading ≡ is_body_done first.downstream.reading
@@ -186,6 +192,14 @@ reads_done first now reads =
     let head = request_head first in
     sym (done_with now.downstream.reading head)
     ∙ (ap is_body_done (reads.but_head head) ∙ done_with first.downstream.reading head)
+
+-- it is kept if it was
+pub reads_kept : (first now : Seen) → ReadsNothing first now
+    → is_kept now.downstream.reading ≡ is_kept first.downstream.reading
+reads_kept first now reads =
+    let head = request_head first in
+    sym (kept_with now.downstream.reading head)
+    ∙ (ap is_kept (reads.but_head head) ∙ kept_with first.downstream.reading head)
 
 -- it has bytes if it had
 pub reads_empty : (first now : Seen) → ReadsNothing first now

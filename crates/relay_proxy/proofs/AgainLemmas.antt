@@ -1,4 +1,5 @@
--- A session that stands as it did behind its head, so that another attempt may begin with it.
+-- A session whose body is kept and whose response has not begun, so that another attempt may begin
+-- with it.
 --
 --   uncounted               tasks behind which no final head was queued count no byte of a body
 --   unqueued_parts          what a response has of which nothing was queued
@@ -25,9 +26,9 @@ use Rattle.relay_h1.specs.Verdict.{HasRequest}
 use Rattle.relay_h1.specs.declared.framing.Framing.{Framing}
 use Rattle.relay_h1.proofs.VerdictLemmas.{HasRequest-unique}
 use Rattle.relay_session.specs.Front.{ends_with_head}
-use Rattle.relay_session.specs.Reading.{IsWhole, RequestSoFar, is_body_done, is_unread, with_head}
+use Rattle.relay_session.specs.Reading.{IsWhole, RequestSoFar, is_body_done, is_kept, with_head}
 use Rattle.relay_session.specs.Response.{Holds, HoldsOn, IsText, has_head, is_unqueued, is_written_out}
-use Rattle.relay_session.specs.Session.{is_as_begun}
+use Rattle.relay_session.specs.Session.{may_begin_again}
 use Rattle.relay_session.specs.TaskSteps.{IsWire}
 use Rattle.relay_session.specs.TaskWire.{Sent, ends_with, framing_of, framed_head_sent, informed, joined, only_end, only_piece, piece_sent, shown, task_sent, wire}
 use Rattle.relay_session.specs.declared.reading.Reading.{Reading}
@@ -42,7 +43,7 @@ use Rattle.relay_session.specs.declared.writing.Writing.{Writing}
 use Rattle.relay_core.specs.Past.{DownPast, Origin}
 use Rattle.relay_sides.specs.Client.{BeginsBehind, IsClient, queued}
 use Rattle.relay_modules.specs.declared.seen.Seen.{Seen}
-use Rattle.relay_hooks.specs.Session.{request_head}
+use Rattle.relay_opening.proofs.ToldLemmas.{reads_kept}
 use Rattle.relay_phases.specs.Turns.{ReadsNothing}
 use Rattle.relay_attempt.specs.Passed.{Passed}
 use Rattle.relay_proxy.specs.Passed.{Start}
@@ -181,47 +182,12 @@ holds_none response tasks taken holds unqueued =
 
 -- ---- a request of which nothing was read
 
--- no byte of its body was given out
-unread_body : (given body ahead : List ℕ) (now : Reading) → RequestSoFar given body ahead now
-    → is_unread now ≡ true → body ≡ []
-unread_body given body ahead reading.Head so_far unread = absurd (true≢false (sym unread))
-unread_body given body ahead (reading.Body request) so_far unread =
-    nil_from_length body (zero (request.received == 0) refl unread)
-  where
-    zero : (b : Bool) → (request.received == 0) ≡ b
-        → (b && (not (is_done request.body) || ends_with_head request.framing)) ≡ true
-        → length body ≡ 0
-    zero true is all = omega (arith, so_far.counted, eqb-true request.received 0 is)
-    zero false is all = absurd (true≢false (sym all))
-
--- its body has ended only where its head says so
-unread_done : (given body ahead : List ℕ) (now : Reading) (head : RequestHead) (framing : Framing)
-    (len : ℕ) → HasRequest given head framing len → RequestSoFar given body ahead now
-    → (ends_with_head framing ≡ true → is_body_done now ≡ true) → is_unread now ≡ true
-    → is_body_done now ≡ ends_with_head framing
-unread_done given body ahead reading.Head head framing len has so_far headed unread =
-    absurd (true≢false (sym unread))
-unread_done given body ahead (reading.Body request) head framing len has so_far headed unread =
-    on (request.received == 0) (is_done request.body) (ends_with_head request.framing)
-    (ends_with_head framing) (ap (λ (f : Framing). ends_with_head f) same) headed unread
-  where
-    same : request.framing ≡ framing
-    same = (HasRequest-unique given so_far.head head request.framing framing so_far.len len
-        so_far.has has).1
-
-    on : (none done own ends : Bool) → own ≡ ends → (ends ≡ true → done ≡ true)
-        → (none && (not done || own)) ≡ true → done ≡ ends
-    on none done own true is headed all = headed refl
-    on none false own false is headed all = refl
-    on true true own false is headed all = absurd (true≢false (sym all ∙ is))
-    on false true own false is headed all = absurd (true≢false (sym all))
-
 -- ---- a session that stands as it did
 
 -- both halves of it do
-pub as_begun_parts : (session : HttpSession) → is_as_begun session ≡ true
-    → (is_unread session.reading ≡ true) × (is_unqueued session.writing ≡ true)
-as_begun_parts session all = on (is_unread session.reading) (is_unqueued session.writing) all
+pub as_begun_parts : (session : HttpSession) → may_begin_again session ≡ true
+    → (is_kept session.reading ≡ true) × (is_unqueued session.writing ≡ true)
+as_begun_parts session all = on (is_kept session.reading) (is_unqueued session.writing) all
   where
     on : (a b : Bool) → (a && b) ≡ true → (a ≡ true) × (b ≡ true)
     on true true all = (refl, refl)
@@ -235,14 +201,11 @@ rebased_to o client = record o { taken = told_length client.taken; faults = clie
 -- such a session begins anew, where the client's link stands
 pub begins_again : (o : Origin) (down : DownPast) (client : LinkState) (ahead : List ℕ)
     (session : HttpSession) → IsClient o down client ahead session
-    → is_as_begun session ≡ true
+    → may_begin_again session ≡ true
     → BeginsBehind (rebased_to o client) down.came client ahead session
 begins_again o down client ahead session c begun =
     let parts = as_begun_parts session begun in
     let unqueued = unqueued_parts session.writing parts.1 in
-    let given : List ℕ = o.ahead ++ down.came in
-    let empty : c.body ≡ [] =
-    unread_body given c.body ahead session.reading c.request parts.0 in
     record {
       gave = c.came;
       written = Since-start [] client.taken;
@@ -254,11 +217,11 @@ begins_again o down client ahead session c begun =
       has_head = c.has_head;
       own = c.own;
       answers = c.answers;
-      request = subst (λ (xs : List ℕ). RequestSoFar given xs ahead session.reading) empty
-          c.request;
-      done = unread_done given c.body ahead session.reading c.head c.framing c.len c.has c.request
-          c.headed parts.0;
-      whole = λ done. subst (λ (xs : List ℕ). IsWhole given xs ahead) empty (c.told_whole done);
+      body = c.body;
+      request = c.request;
+      kept = parts.0;
+      headed = c.headed;
+      whole = c.told_whole;
       response = holds_none session.writing (queued down) down.written c.response unqueued;
       output = unqueued.output;
       tells = c.tells;
@@ -279,8 +242,10 @@ based_begins o came client ahead session b = record {
   has_head = b.has_head;
   own = b.own;
   answers = b.answers;
+  body = b.body;
   request = b.request;
-  done = b.done;
+  kept = b.kept;
+  headed = b.headed;
   whole = b.whole;
   response = b.response;
   output = b.output;
@@ -303,8 +268,10 @@ begins_any o came client ahead session sent reused b = record {
   has_head = b.has_head;
   own = b.own;
   answers = b.answers;
+  body = b.body;
   request = b.request;
-  done = b.done;
+  kept = b.kept;
+  headed = b.headed;
   whole = b.whole;
   response = b.response;
   output = b.output;
@@ -325,20 +292,12 @@ begins_accepted s p o client ahead session same relayable b = record {
 
 -- ---- behind a hook
 
--- whether something was read does not depend on the head
-unread_with : (now : Reading) (head : RequestHead) → is_unread (with_head now head) ≡ is_unread now
-unread_with reading.Head head = refl
-unread_with (reading.Body request) head = refl
-
 -- a session that stands as begun behind a hook that read and queued nothing stood so before it
 pub as_begun_before : (first now : Seen) → ReadsNothing first now
     → now.downstream.writing ≡ first.downstream.writing
-    → is_as_begun now.downstream ≡ true → is_as_begun first.downstream ≡ true
+    → may_begin_again now.downstream ≡ true → may_begin_again first.downstream ≡ true
 as_begun_before first now reads same begun =
-    let head = request_head first in
-    let unread : is_unread now.downstream.reading ≡ is_unread first.downstream.reading =
-    sym (unread_with now.downstream.reading head)
-    ∙ (ap is_unread (reads.but_head head) ∙ unread_with first.downstream.reading head) in
-    ap (λ (b : Bool). b && is_unqueued first.downstream.writing) (sym unread)
-    ∙ ap (λ (w : Writing). is_unread now.downstream.reading && is_unqueued w) (sym same)
+    let kept = reads_kept first now reads in
+    ap (λ (b : Bool). b && is_unqueued first.downstream.writing) (sym kept)
+    ∙ ap (λ (w : Writing). is_kept now.downstream.reading && is_unqueued w) (sym same)
     ∙ begun

@@ -21,7 +21,7 @@ use Rattle.relay_links.specs.Link.{LinkState, LinkStart, IsHandedOut}
 use Rattle.relay_session.specs.Asked.{request_of}
 use Rattle.relay_session.specs.Reading.{head_of}
 use Rattle.relay_session.specs.Response.{Holds, HoldsOn, IsOpen, has_head, pending}
-use Rattle.relay_session.specs.Session.{is_as_begun}
+use Rattle.relay_session.specs.Session.{may_begin_again}
 use Rattle.relay_session.specs.TaskWire.{Sent, wire}
 use Rattle.relay_session.specs.declared.session.HttpSession.{HttpSession}
 use Rattle.relay_session.specs.declared.task_text.Place.{Place}
@@ -269,7 +269,7 @@ session_on : (s : Start) (these those : List LogEntry) (e : LogEntry) → those 
     → ((head : RequestHead) → head_of session.reading ≡ Some (head_behind head these)
     → head_of left.reading ≡ Some (head_behind head those))
     → (wrote_in these ≡ [] → wrote_in those ≡ [])
-    → (is_as_begun left ≡ true → is_as_begun session ≡ true)
+    → (may_begin_again left ≡ true → may_begin_again session ≡ true)
     → ((o : Origin) → BeginsBehind o p.came client ahead session
     → BeginsBehind o p.came client ahead left)
     → LeavesSession (opened_to s these) p client ahead link start session raised
@@ -603,7 +603,7 @@ module _ {L C M K : Type 0} (state : L → LinkState) (start_at : L → LinkStar
     (link : L) (lease : Lease) (keep : Bool) (raised treated : Error)
     (run : RunSoFar {C = C} state start_at (opened_to s (log_of c)) p w []
     (Broken context session link lease keep raised))
-    (is_treated : IsTreated (log_of c) raised treated) (begun : is_as_begun session.value ≡ true)
+    (is_treated : IsTreated (log_of c) raised treated) (begun : may_begin_again session.value ≡ true)
     (may : MayTry s.most (1 + length (tries_in lease)) treated)
     (to : Station)
     (turn : Turns allows hook.SuppressProxyWarnLog station.repeatable to QueuesNothing

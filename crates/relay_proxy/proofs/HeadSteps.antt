@@ -16,7 +16,7 @@ use Rattle.relay_h1.specs.declared.framing.Framing.{Framing}
 use Rattle.relay_h1.specs.declared.framing.Framing.TheVariants as framing
 use Rattle.relay_session.specs.Asked.{request_of}
 use Rattle.relay_session.specs.Front.{ends_with_head}
-use Rattle.relay_session.specs.Reading.{head_of, is_body_done, RequestSoFar, IsWhole}
+use Rattle.relay_session.specs.Reading.{head_of, is_body_done, is_kept, RequestSoFar, IsWhole}
 use Rattle.relay_session.specs.Generated.{answer_tasks, AnswersText}
 use Rattle.relay_session.specs.Response.{Holds, HoldsOn, IsText, AreQueued}
 use Rattle.relay_session.specs.Session.{AnswersRead}
@@ -61,6 +61,7 @@ pub record StandsBehind (head : RequestHead) (framing : Framing) (session : Http
     : Type 0 where
   pub is_head : head_of session.reading ≡ Some head
   pub done : is_body_done session.reading ≡ is_done (first_state framing)
+  pub kept : is_kept session.reading ≡ true
   pub starts : (given : List ℕ) (len : ℕ) → HasRequest given head framing len
       → RequestSoFar given [] (drop len given) session.reading
   pub whole : (given : List ℕ) (len : ℕ) → HasRequest given head framing len
@@ -86,8 +87,10 @@ begins_behind s p w head framing len session sent reused tells none has taken st
   has_head = rw stands.is_head refl;
   own = refl;
   answers = stands.answers;
+  body = [];
   request = rw taken (stands.starts (asked s p) len has);
-  done = stands.done ∙ done_at_first framing;
+  kept = stands.kept;
+  headed = λ none. stands.done ∙ done_at_first framing ∙ none;
   whole = λ done. rw taken (stands.whole (asked s p) len has done);
   response = stands.response;
   output = stands.output;

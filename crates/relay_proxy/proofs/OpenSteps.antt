@@ -37,7 +37,7 @@ use Rattle.relay_phases.specs.Order.{Station as station}
 use Rattle.relay_phases.specs.Turns.{HasCalled, QueuesNothing, ReadsNothing, Turns, wrote_in}
 use Rattle.relay_phases.proofs.TurnLemmas.{wrote_in-append}
 use Rattle.relay_opening.specs.Told.{TellsHead, head_behind}
-use Rattle.relay_opening.proofs.ToldLemmas.{called_head, reads_done, reads_so_far, walk_head}
+use Rattle.relay_opening.proofs.ToldLemmas.{called_head, reads_done, reads_kept, reads_so_far, walk_head}
 use Rattle.relay_opening.specs.Queued.{Completes, QueuesAnswer, QueuesAtEnd}
 use Rattle.relay_opening.specs.Place.{end_station}
 use Rattle.relay_opening.specs.declared.place.End.{End}
@@ -168,8 +168,10 @@ begins_on o came link ahead first now reads same begins = record {
   has_head = reads.head begins.has_head;
   own = begins.own;
   answers = ap (λ (w : Writing). w.request) same ∙ begins.answers;
-  request = reads_so_far (o.ahead ++ came) [] ahead first now reads begins.request;
-  done = reads_done first now reads ∙ begins.done;
+  body = begins.body;
+  request = reads_so_far (o.ahead ++ came) begins.body ahead first now reads begins.request;
+  kept = reads_kept first now reads ∙ begins.kept;
+  headed = λ none. reads_done first now reads ∙ begins.headed none;
   whole = λ done. begins.whole (sym (reads_done first now reads) ∙ done);
   response = subst (λ (w : Writing). Holds w [] []) (sym same) begins.response;
   output = ap (λ (w : Writing). w.output) same ∙ begins.output;

@@ -10,7 +10,7 @@ use Rattle.relay_phases.specs.Turns.{wrote_in}
 use Rattle.relay_session.specs.Asked.{request_of}
 use Rattle.relay_session.specs.Reading.{head_of}
 use Rattle.relay_session.specs.Response.{Holds}
-use Rattle.relay_session.specs.Session.{is_as_begun}
+use Rattle.relay_session.specs.Session.{may_begin_again}
 use Rattle.relay_session.specs.declared.session.HttpSession.{HttpSession}
 use Rattle.relay_session.specs.declared.writing.Outgoing.TheVariants as outgoing
 use Rattle.relay_sides.specs.Client.{BeginsBehind}
@@ -99,7 +99,7 @@ pub record LeavesSession (s : Start) (p : Passed) (client : LinkState) (ahead : 
   pub is_left : head_of session.reading ≡ Some (head_behind head s.called)
   pub quiet : wrote_in s.called ≡ []
   -- another attempt may begin with it where it stands as it did behind its head
-  pub again : is_as_begun session ≡ true
+  pub again : may_begin_again session ≡ true
       → BeginsBehind (origin_of (based s client) head sent start.reused) p.came client ahead session
 
 -- an attempt failed with that error ahead of its exchange, over a link that was handed out and is

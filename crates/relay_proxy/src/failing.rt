@@ -2,7 +2,7 @@
 //! the application answers the client for what it made of it (RFC 9110, sections 9.2.2 and 15).
 ghost use Rattle.std.specs.Prelude.{◌≡◌, ◌⊎◌, ◌+◌, ◌≤◌, [], ◌∷◌, length, ℕ, None, Some, true};
 ghost use Rattle.relay_tasks.specs.Error.{may_retry};
-ghost use Rattle.relay_session.specs.Session.{is_as_begun};
+ghost use Rattle.relay_session.specs.Session.{may_begin_again};
 ghost use Rattle.relay_attempt.specs.Passed.{Passed};
 ghost use Rattle.relay_proxy.specs.Bound.{CountsTreat, LeavesLink};
 ghost use Rattle.relay_proxy.specs.Calls.{CallsSoFar, CountsCalls, IsUnended, Owing, allowed_by, log_of, treated_at};
@@ -74,7 +74,7 @@ pub(crate) fn fail<SV: ProxyHttp, L: ByteLink>(
     match calls.treated() {
         None => treat_broken(app, calls, context, session, link, lease, keep, error),
         Some(treated) => {
-            if may_try(most, lease.room.made(), &treated) && session.is_as_begun() {
+            if may_try(most, lease.room.made(), &treated) && session.may_begin_again() {
                 return repeat(
                     app, calls, context, session, link, lease, keep, error, treated,
                 );
@@ -100,7 +100,7 @@ fn repeat<SV: ProxyHttp, L: ByteLink>(
     treated: Error,
 ) -> Next<L, SV::CTX>
     requires treated { treated_at calls.old.at ≡ Some treated }
-    requires begun { is_as_begun session.value ≡ true }
+    requires begun { may_begin_again session.value ≡ true }
     ensures run { (s : Start) (p : Passed) (w : World)
         → MayTry s.most (1 + length (tries_in lease)) treated
         → CallsSoFar {L = L} (allowed_by (SV.allows app.now) SV.Modules.allows)

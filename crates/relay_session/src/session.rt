@@ -64,6 +64,7 @@ impl HttpSession {
     pub fn begun_http1(alloc: Global, head: RequestHeader, framing: Framing) -> HttpSession
         ensures head { head_of result.reading ≡ Some head }
         ensures done { is_body_done result.reading ≡ is_done (first_state framing) }
+        ensures kept { is_kept result.reading ≡ true }
         ensures empty { is_body_empty result.reading ≡ ends_with_head framing }
         ensures starts { (given : List ℕ) (len : ℕ) → HasRequest given head framing len
             → RequestSoFar given [] (drop len given) result.reading }

@@ -55,6 +55,7 @@ returns-clause-run g c = λ s p faults none run has entered no_connect.
     (record {
       is_head = made.head;
       done = made.done;
+      kept = made.kept;
       starts = made.starts;
       whole = made.whole;
       answers = made.answers;

@@ -24,8 +24,8 @@ returns-in-None-clause-run g c = λ s p w most b run.
     (still_open s (log_of c.args.calls.now) b.unended) run)))
 
 -- where it was, another attempt follows
-pub returns-then-is_as_begun-clause-run : goal.returns-then-is_as_begun-clause-run
-returns-then-is_as_begun-clause-run g c = λ s p w most b run.
+pub returns-then-may_begin_again-clause-run : goal.returns-then-may_begin_again-clause-run
+returns-then-may_begin_again-clause-run g c = λ s p w most b run.
     c.repeat.ensures.run s p w
     (subst (λ (n : ℕ). MayTry n (1 + length (tries_in c.args.lease)) c.in-Some.treated) (sym most)
     (subst (λ (n : ℕ). MayTry c.args.most n c.in-Some.treated) c.made.ensures
