@@ -4,7 +4,7 @@ use Rattle.std.specs.Prelude.{IsSome, Option}
 use Rattle.relay_tasks.specs.Head.{RequestHead, new_request}
 use Rattle.relay_tasks.specs.declared.log.LogEntry.{LogEntry}
 use Rattle.relay_tasks.specs.declared.task.HttpTask.{HttpTask}
-use Rattle.relay_session.specs.Reading.{RequestSoFar, head_of, is_body_done, is_body_empty, is_kept, received, with_head}
+use Rattle.relay_session.specs.Reading.{RequestSoFar, head_of, is_body_done, is_body_empty, is_kept, is_truncated, received, with_head}
 use Rattle.relay_session.specs.Response.{IsOpen}
 use Rattle.relay_session.specs.declared.reading.Reading.{Reading}
 use Rattle.relay_session.specs.declared.reading.Reading.TheVariants as reading
@@ -185,6 +185,11 @@ kept_with : (r : Reading) (head : RequestHead) → is_kept (with_head r head) �
 kept_with reading.Head head = refl
 kept_with (reading.Body request) head = refl
 
+truncated_with : (r : Reading) (head : RequestHead)
+    → is_truncated (with_head r head) ≡ is_truncated r
+truncated_with reading.Head head = refl
+truncated_with (reading.Body request) head = refl
+
 -- where nothing was read the body has ended if it had before
 pub reads_done : (first now : Seen) → ReadsNothing first now
     → is_body_done now.downstream.reading ≡ is_body_done first.downstream.reading
@@ -200,6 +205,14 @@ reads_kept first now reads =
     let head = request_head first in
     sym (kept_with now.downstream.reading head)
     ∙ (ap is_kept (reads.but_head head) ∙ kept_with first.downstream.reading head)
+
+-- no more of it is lost
+pub reads_truncated : (first now : Seen) → ReadsNothing first now
+    → is_truncated now.downstream.reading ≡ is_truncated first.downstream.reading
+reads_truncated first now reads =
+    let head = request_head first in
+    sym (truncated_with now.downstream.reading head)
+    ∙ (ap is_truncated (reads.but_head head) ∙ truncated_with first.downstream.reading head)
 
 -- it has bytes if it had
 pub reads_empty : (first now : Seen) → ReadsNothing first now

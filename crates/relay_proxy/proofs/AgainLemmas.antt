@@ -26,7 +26,7 @@ use Rattle.relay_h1.specs.Verdict.{HasRequest}
 use Rattle.relay_h1.specs.declared.framing.Framing.{Framing}
 use Rattle.relay_h1.proofs.VerdictLemmas.{HasRequest-unique}
 use Rattle.relay_session.specs.Front.{ends_with_head}
-use Rattle.relay_session.specs.Reading.{IsWhole, RequestSoFar, is_body_done, is_kept, with_head}
+use Rattle.relay_session.specs.Reading.{IsWhole, RequestSoFar, is_body_done, is_kept, is_truncated, with_head}
 use Rattle.relay_session.specs.Response.{Holds, HoldsOn, IsText, has_head, is_unqueued, is_written_out}
 use Rattle.relay_session.specs.Session.{may_begin_again}
 use Rattle.relay_session.specs.TaskSteps.{IsWire}
@@ -193,6 +193,11 @@ as_begun_parts session all = on (is_kept session.reading) (is_unqueued session.w
     on true true all = (refl, refl)
     on true false all = absurd (true≢false (sym all))
     on false b all = absurd (true≢false (sym all))
+
+-- what is kept is not lost
+pub kept_whole : (now : Reading) → is_kept now ≡ true → is_truncated now ≡ false
+kept_whole reading.Head kept = refl
+kept_whole (reading.Body request) kept = ap (λ (b : Bool). not b) kept
 
 -- the same place, where the client's link stands
 abbrev pub rebased_to : Origin → LinkState → Origin

@@ -20,7 +20,8 @@ use Rattle.relay_tasks.specs.declared.hook.Hook.TheVariants as hook
 use Rattle.relay_tasks.specs.declared.log.LogEntry.{LogEntry}
 use Rattle.relay_tasks.specs.declared.task.HttpTask.{HttpTask}
 use Rattle.relay_links.specs.declared.Returned.{Returned}
-use Rattle.relay_session.specs.Reading.{head_of}
+use Rattle.relay_opening.proofs.ToldLemmas.{reads_truncated}
+use Rattle.relay_session.specs.Reading.{head_of, is_truncated}
 use Rattle.relay_session.specs.Response.{has_head}
 use Rattle.relay_session.specs.declared.session.HttpSession.{HttpSession}
 use Rattle.relay_session.specs.declared.writing.Writing.{Writing}
@@ -288,8 +289,8 @@ may_treat (at.Closing held there) log error here none may = may
 pub never_again : {K X : Type 0} (a : At K X) (left : HttpSession) (to : Station)
     → treated_at a ≡ None → (treated : Error) → treated_at a ≡ Some treated
     → may_retry treated.retry ≡ true → has_head left.writing.place ≡ false
-    → to ≡ station.repeatable
-never_again a left to untreated treated is marked open_to =
+    → is_truncated left.reading ≡ false → to ≡ station.repeatable
+never_again a left to untreated treated is marked open_to kept =
     let clash : None ≡ Some treated = sym untreated ∙ is in cc
 
 -- where it was, the log tells of that, and it may be answered
@@ -312,14 +313,18 @@ may_answer : (follows : Bool) → IsTrue (may_fail (leads.treated_at follows))
 may_answer true = refl
 may_answer false = refl
 
--- where it was marked so, and no final head was queued, another attempt may follow
+-- where it was marked so, no final head was queued, and what was read of the body is kept, another
+-- attempt may follow
 repeats_at : (treated : Error) (seen : Seen) → may_retry treated.retry ≡ true
     → has_head seen.downstream.writing.place ≡ false
+    → is_truncated seen.downstream.reading ≡ false
     → leads.treated_at (may_follow treated seen) ≡ station.repeatable
-repeats_at treated seen marked open_to =
-    ap (λ (b : Bool). leads.treated_at (b && (not (has_head seen.downstream.writing.place) && true)))
+repeats_at treated seen marked open_to kept =
+    let lost = is_truncated seen.downstream.reading in
+    ap (λ (b : Bool). leads.treated_at (b && (not (has_head seen.downstream.writing.place) && not lost)))
     marked
-    ∙ ap (λ (b : Bool). leads.treated_at (not b && true)) open_to
+    ∙ ap (λ (b : Bool). leads.treated_at (not b && not lost)) open_to
+    ∙ ap (λ (b : Bool). leads.treated_at (not b)) kept
 
 same_error : (a b : Error) → Some a ≡ Some b → a ≡ b
 same_error a b is = cc
@@ -462,10 +467,12 @@ module _ {C M K : Type 0} (allows : Standing → LogEntry → Type 0) (mark_of :
               t.call.input t.call.output,
           may_answer (may_follow treated (seen_with c client)),
         );
-        again = λ other is_other marked open_to. repeats_at treated (seen_with c client)
+        again = λ other is_other marked open_to whole. repeats_at treated (seen_with c client)
             (subst (λ (x : Error). may_retry x.retry ≡ true)
             (same_error other treated (sym is_other ∙ ap (λ (a : At K C). treated_at a) is)) marked)
-            (ap (λ (x : Writing). has_head x.place) (sym t.call.turn.queued.same) ∙ open_to);
+            (ap (λ (x : Writing). has_head x.place) (sym t.call.turn.queued.same) ∙ open_to)
+            (sym (reads_truncated (seen_with c client) (seen_with d left) t.call.turn.calls.reads)
+            ∙ whole);
         unended = unended_more (log_of c) (log_of d) e hook.ErrorWhileProxy t.call.turn.calls.log
             t.call.turn.hook refl b.unended;
       }
@@ -502,18 +509,19 @@ module _ {C M K : Type 0} (allows : Standing → LogEntry → Type 0) (mark_of :
   pub repeats_calls : (c d : Calls M K C) (context context' : C) (client left : HttpSession)
       (tries : List AttemptRecord) (error treated : Error) → treated_at c.at ≡ Some treated
       → may_retry treated.retry ≡ true → has_head client.writing.place ≡ false
+      → is_truncated client.reading ≡ false
       → CallsNext allows (record c { at = at.Repeatable treated }) client (mark_of context) d left
       (mark_of context')
       → leads_at d.at ≡ led.GoesOn → IsBreaking allows mark_of c context client error
       → IsOpening allows mark_of d context' left tries × (is_before d.at ≡ false)
-  repeats_calls c d context context' client left tries error treated is marked open_to
+  repeats_calls c d context context' client left tries error treated is marked open_to kept
       (TakesNext.leads before which comes there to turn) goes b = absurd (true≢false (sym before))
-  repeats_calls c d context context' client left tries error treated is marked open_to
+  repeats_calls c d context context' client left tries error treated is marked open_to kept
       (TakesNext.tried t) goes b =
       let turn = repeats_turn c d context context' client left treated (TakesNext.tried t) goes in
       let here : Accepts station.accepted (log_of c) station.repeatable =
       subst (λ (x : Station). Accepts station.accepted (log_of c) x)
-      (b.again treated is marked open_to) b.order in (
+      (b.again treated is marked open_to kept) b.order in (
         record {
           from = b.from;
           walks = walks_more c d context context' client left b.from turn.e turn.calls b.walks;
@@ -524,12 +532,13 @@ module _ {C M K : Type 0} (allows : Standing → LogEntry → Type 0) (mark_of :
           untried = λ still. absurd (true≢false (sym still ∙ t.past));
           untreated = untreated_again (log_of c) (log_of d) turn.e turn.calls.log turn.hook;
           unanswered = ap (λ (x : Writing). has_head x.place) turn.queued.same ∙ open_to;
+          kept = reads_truncated (seen_with c client) (seen_with d left) turn.calls.reads ∙ kept;
           unended = unended_more (log_of c) (log_of d) turn.e hook.SuppressProxyWarnLog
               turn.calls.log turn.hook refl b.unended;
         },
         t.past,
       )
-  repeats_calls c d context context' client left tries error treated is marked open_to
+  repeats_calls c d context context' client left tries error treated is marked open_to kept
       (TakesNext.lost to same) goes b =
       let clash : led.OutOfMemory ≡ led.GoesOn =
       sym (ap (λ (a : At K C). leads_at a) to) ∙ goes in cc
@@ -537,14 +546,14 @@ module _ {C M K : Type 0} (allows : Standing → LogEntry → Type 0) (mark_of :
   -- wherever that call led the log is in order
   pub repeats_logged : (c d : Calls M K C) (context context' : C) (client left : HttpSession)
       (error treated : Error) → treated_at c.at ≡ Some treated → may_retry treated.retry ≡ true
-      → has_head client.writing.place ≡ false
+      → has_head client.writing.place ≡ false → is_truncated client.reading ≡ false
       → CallsNext allows (record c { at = at.Repeatable treated }) client (mark_of context) d left
       (mark_of context')
       → IsBreaking allows mark_of c context client error
       → (at : Station) × IsLogged allows (log_of d) at
-  repeats_logged c d context context' client left error treated is marked open_to
+  repeats_logged c d context context' client left error treated is marked open_to kept
       (TakesNext.leads before which comes there to turn) b = absurd (true≢false (sym before))
-  repeats_logged c d context context' client left error treated is marked open_to
+  repeats_logged c d context context' client left error treated is marked open_to kept
       (TakesNext.tried t) b = (
         station_at d.at,
         record {
@@ -553,20 +562,21 @@ module _ {C M K : Type 0} (allows : Standing → LogEntry → Type 0) (mark_of :
           walks = walks_more c d context context' client left b.from t.turn.e t.turn.calls b.walks;
           order = order_more c d station.repeatable (station_at d.at) t.turn.e t.turn.calls.log
               t.turn.order (subst (λ (x : Station). Accepts station.accepted (log_of c) x)
-              (b.again treated is marked open_to) b.order);
+              (b.again treated is marked open_to kept) b.order);
         },
       )
-  repeats_logged c d context context' client left error treated is marked open_to
+  repeats_logged c d context context' client left error treated is marked open_to kept
       (TakesNext.lost to same) b = untreated_logged c d context client error same b
 
   -- the context was made, and the calls so far are that one
   pub begun_calls : (c d : Calls M K C) (client left : HttpSession) (context : C)
       (tries : List AttemptRecord) → log_of c ≡ [] → tries ≡ [] → HasBegun d.at
-      → has_head client.writing.place ≡ false → length (log_of d) ≡ length (log_of c) + 1
+      → has_head client.writing.place ≡ false → is_truncated client.reading ≡ false
+      → length (log_of d) ≡ length (log_of c) + 1
       → HasCalled allows (seen_with c client) (mark_of context) station.accepted station.made
       QueuesNothing (seen_with d left) (mark_of context)
       → IsOpening allows mark_of d context left tries
-  begun_calls c d client left context tries none untried begun open_to one called =
+  begun_calls c d client left context tries none untried begun open_to kept one called =
       let entries = all_entries (seen_with c client) (seen_with d left) called.entries none
       called.log in
       record {
@@ -586,6 +596,7 @@ module _ {C M K : Type 0} (allows : Standing → LogEntry → Type 0) (mark_of :
             (made_untreated called.entries called.order
             (entries_one (log_of c) (log_of d) called.entries none called.log one));
         unanswered = ap (λ (x : Writing). has_head x.place) called.queued.same ∙ open_to;
+        kept = reads_truncated (seen_with c client) (seen_with d left) called.reads ∙ kept;
         unended = begun_on (log_of c) (log_of d) called.entries called.log called.order one
             (subst (λ (l : List LogEntry). IsUnended l) (sym none) refl);
       }
@@ -620,6 +631,7 @@ module _ {C M K : Type 0} (allows : Standing → LogEntry → Type 0) (mark_of :
     untried = λ still. absurd (true≢false (sym still ∙ past));
     untreated = o.untreated;
     unanswered = o.unanswered;
+    kept = o.kept;
     unended = o.unended;
   }
 

@@ -8,6 +8,7 @@
 --   counts_called ..           what is counted of the call
 --   stop_text                  what answers that
 use Rattle.std.proofs.Common.{◌≡◌, ℕ, ◌≤◌, true, false, List, [], ◌∷◌, ◌++◌, Some, None, Bool, Option, is_some, refl, sym, ap, subst, ◌∙◌, arith, true≢false}
+use Rattle.relay_opening.proofs.ToldLemmas.{reads_truncated}
 use Rattle.relay_tasks.specs.Head.{RequestHead}
 use Rattle.relay_tasks.specs.Hooks.{same_hook}
 use Rattle.relay_tasks.specs.declared.Error.{Error}
@@ -374,6 +375,8 @@ module _ {C M K : Type 0} (allows : Standing → LogEntry → Type 0) (mark_of :
           untried = λ still. o.untried (g.before still);
           untreated = untreated o.untreated;
           unanswered = ap (λ (x : Writing). has_head x.place) g.turn.queued.same ∙ o.unanswered;
+          kept = reads_truncated (seen_with old client) (seen_with new left) g.turn.calls.reads
+              ∙ o.kept;
           unended = unended o.unended;
         }
 

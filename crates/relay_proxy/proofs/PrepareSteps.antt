@@ -25,7 +25,13 @@ use Rattle.relay_links.proofs.SinceLemmas.{Since-start}
 use Rattle.relay_h1.specs.Framing.{request_framing}
 use Rattle.relay_h1.specs.declared.framing.Framing.{Framing}
 use Rattle.relay_authority.specs.Stage.{Makes}
-use Rattle.relay_session.specs.Reading.{head_of, is_body_done}
+use Rattle.relay_opening.proofs.ToldLemmas.{reads_truncated}
+use Rattle.relay_session.specs.Front.{ends_with_head}
+use Rattle.relay_session.specs.Reading.{head_of, is_body_empty, RequestSoFar}
+use Rattle.relay_session.specs.declared.reading.Reading.{Reading}
+use Rattle.relay_session.specs.declared.reading.Reading.TheVariants as reading
+use Rattle.relay_h1.proofs.VerdictLemmas.{HasRequest-unique}
+use Rattle.relay_h1.specs.Verdict.{HasRequest}
 use Rattle.relay_session.specs.Response.{has_head}
 use Rattle.relay_session.specs.declared.writing.Writing.{Writing}
 use Rattle.relay_session.specs.declared.session.HttpSession.{HttpSession}
@@ -49,7 +55,7 @@ use Rattle.relay_proxy.specs.Preparing.{FiltersReady, MakesHead, Prepares, Settl
 use Rattle.relay_proxy.specs.Sent.{Filters, Sends, RefusesToSend, SettlesFramed, asked_in, client_in, client_of, unframed}
 use Rattle.relay_proxy.specs.Endings.{IsInOrder}
 use Rattle.relay_proxy.specs.Tries.{AreTries, tries_in}
-use Rattle.relay_proxy.specs.Passed.{World, Start, begins_end, opened_to, origin_of, TellsClient, IsUnsent, IsUntouched}
+use Rattle.relay_proxy.specs.Passed.{asked, World, Start, begins_end, opened_to, origin_of, TellsClient, IsUnsent, IsUntouched}
 use Rattle.relay_proxy.specs.Phases.{IsBroken, IsConnecting, IsLeased, IsRelaying, LeavesAhead, PhaseHolds, RunSoFar}
 use Rattle.relay_proxy.specs.Turn.{Advances}
 use Rattle.relay_proxy.specs.declared.calls.At.{At}
@@ -114,7 +120,16 @@ leased_on s these those p link start lease same leased = record {
 
 -- ---- what is made of the head
 
--- whether the client's body has bytes is what its session says, before any was read
+-- the session says of its body what the framing of its head does
+empty_is : (given body ahead : List ℕ) (now : Reading) (head : RequestHead) (framing : Framing)
+    (len : ℕ) → HasRequest given head framing len → IsSome (head_of now)
+    → RequestSoFar given body ahead now → is_body_empty now ≡ ends_with_head framing
+empty_is given body ahead reading.Head head framing len has some so_far = cc
+empty_is given body ahead (reading.Body request) head framing len has some so_far =
+    ap ends_with_head (HasRequest-unique given so_far.head head request.framing framing so_far.len
+    len so_far.has has).1
+
+-- whether the client's body has bytes is what its session says
 client_asked : (s : Start) (p : Passed) (w : World) (session : HttpSession)
     (tries : List AttemptRecord) (k : IsConnecting s p w session tries)
     → client_in session ≡ client_of k.head
@@ -122,7 +137,9 @@ client_asked s p w session tries k =
     let b = k.begins k.head false in
     let framed : request_framing k.head ≡ Some b.framing =
     subst (λ (h : RequestHead). request_framing h ≡ Some b.framing) b.own b.has.framed in
-    client_is k.head b.framing (is_body_done session.reading) framed b.done
+    client_is k.head b.framing (is_body_empty session.reading) framed
+    (empty_is (asked s p) b.body w.ahead session.reading b.head b.framing b.len b.has b.has_head
+    b.request)
 
 module _ {M K X : Type 0} (allows : Standing → LogEntry → Type 0) (c d : Calls M K X)
     (client left : HttpSession) (mark behind : ℕ) (s : Start) (p : Passed) (w : World)
@@ -537,6 +554,7 @@ module _ {C M K : Type 0} (allows : Standing → LogEntry → Type 0) (mark_of :
       untreated = untreated_more (log_of c) (log_of d) turn.e hook.ConnectedToUpstream
           turn.calls.log turn.hook refl o.untreated;
       unanswered = ap (λ (x : Writing). has_head x.place) turn.queued.same ∙ o.unanswered;
+      kept = reads_truncated (seen_with c client) (seen_with d left) turn.calls.reads ∙ o.kept;
       unended = unended_more (log_of c) (log_of d) turn.e hook.ConnectedToUpstream turn.calls.log
           turn.hook refl o.unended;
     }

@@ -6,6 +6,8 @@
 use Rattle.std.specs.Global.{Box}
 use Rattle.std.proofs.Common.{◌≡◌, ℕ, Bool, true, false, ◌&&◌, not, true≢false, List, length, None, refl, sym, ap, subst, ◌∙◌, inl, inr}
 use Rattle.std.specs.Prelude.{IsTrue}
+use Rattle.relay_opening.proofs.ToldLemmas.{reads_truncated}
+use Rattle.relay_session.specs.Reading.{is_truncated}
 use Rattle.relay_tasks.specs.Error.{may_retry}
 use Rattle.relay_tasks.specs.declared.Error.{Error}
 use Rattle.relay_tasks.specs.declared.Peer.{Peer}
@@ -39,11 +41,14 @@ may_end : (follows : Bool) → IsTrue (may_fail (leads.treated_at follows))
 may_end true = refl
 may_end false = refl
 
--- no final head was queued, so another attempt may follow where the error is marked so
-follows : (again has : Bool) → again ≡ true → has ≡ false → (again && (not has && not false)) ≡ true
-follows true false is none = refl
-follows true true is none = absurd (true≢false none)
-follows false has is none = absurd (true≢false (sym is))
+-- no final head was queued, and the body is kept, so another attempt may follow where the error is
+-- marked so
+follows : (again has lost : Bool) → again ≡ true → has ≡ false → lost ≡ false
+    → (again && (not has && not lost)) ≡ true
+follows true false false is none kept = refl
+follows true false true is none kept = absurd (true≢false kept)
+follows true true lost is none kept = absurd (true≢false none)
+follows false has lost is none kept = absurd (true≢false (sym is))
 
 module _ {C M K : Type 0} (allows : Standing → LogEntry → Type 0) (mark_of : C → ℕ)
     (c d : Calls M K C) (context context' : C) (client left : HttpSession)
@@ -84,7 +89,8 @@ module _ {C M K : Type 0} (allows : Standing → LogEntry → Type 0) (mark_of :
           from = o.from;
           walks = walks;
           order = subst (λ (b : Bool). Accepts station.accepted (log_of d) (leads.treated_at b))
-              (follows (may_retry treated.retry) (has_head client.writing.place) again o.unanswered)
+              (follows (may_retry treated.retry) (has_head client.writing.place)
+              (is_truncated client.reading) again o.unanswered o.kept)
               order;
           goes = tt;
           named = tt;
@@ -92,6 +98,8 @@ module _ {C M K : Type 0} (allows : Standing → LogEntry → Type 0) (mark_of :
           untreated = untreated_more (log_of c) (log_of d) t.call.turn.e hook.FailToConnect
               t.call.turn.calls.log t.call.turn.hook refl o.untreated;
           unanswered = ap (λ (x : Writing). has_head x.place) t.call.turn.queued.same ∙ o.unanswered;
+          kept = reads_truncated (seen_with c client) (seen_with d left) t.call.turn.calls.reads
+              ∙ o.kept;
           unended = unended;
         })
 

@@ -211,9 +211,9 @@ unsettled_as session own filtered (fail.Error e) is made = λ asked asks.
 -- ---- the client's body
 
 -- whether a body has bytes is said by the framing of its head
-pub client_is : (head : RequestHead) (framing : Framing) (done : Bool)
-    → request_framing head ≡ Some framing → done ≡ ends_with_head framing
-    → record { custom = false; has_body = not done } ≡ client_of head
-client_is head framing done framed is =
+pub client_is : (head : RequestHead) (framing : Framing) (empty : Bool)
+    → request_framing head ≡ Some framing → empty ≡ ends_with_head framing
+    → record { custom = false; has_body = not empty } ≡ client_of head
+client_is head framing empty framed is =
     ap (λ (b : Bool). client_with (not b)) is
     ∙ sym (ap (λ (f : Option Framing). client_with (has_body f)) framed)

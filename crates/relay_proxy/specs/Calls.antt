@@ -8,7 +8,7 @@ use Rattle.relay_tasks.specs.declared.hook.Hook.TheVariants as hook
 use Rattle.relay_tasks.specs.declared.log.Item.TheVariants as item
 use Rattle.relay_tasks.specs.declared.log.LogEntry.{LogEntry}
 use Rattle.std.specs.List.{list_any}
-use Rattle.relay_session.specs.Reading.{head_of}
+use Rattle.relay_session.specs.Reading.{head_of, is_truncated}
 use Rattle.relay_session.specs.Response.{has_head}
 use Rattle.relay_session.specs.declared.session.HttpSession.{HttpSession}
 use Rattle.std.specs.Global.{Box}
@@ -496,8 +496,9 @@ module _ {C M K : Type 0} (allows : Standing → LogEntry → Type 0) (mark_of :
     pub untried : is_before calls.at ≡ true → tries ≡ []
     -- of no attempt that had a link the error was treated but where another one followed
     pub untreated : IsUntreated (log_of calls)
-    -- no final head was queued for the client
+    -- no final head was queued for the client, and what was read of its body is kept
     pub unanswered : has_head client.writing.place ≡ false
+    pub kept : is_truncated client.reading ≡ false
     pub unended : IsUnended (log_of calls)
 
   -- the calls so far of an attempt that failed with that error: the log walks to where the session
@@ -513,7 +514,7 @@ module _ {C M K : Type 0} (allows : Standing → LogEntry → Type 0) (mark_of :
     -- where its error was treated, and may be tried again as far as the log tells
     pub again : (treated : Error) → treated_at calls.at ≡ Some treated
         → may_retry treated.retry ≡ true → has_head client.writing.place ≡ false
-        → at ≡ station.repeatable
+        → is_truncated client.reading ≡ false → at ≡ station.repeatable
     pub unended : IsUnended (log_of calls)
 
   -- the calls so far of a request whose last attempt was given no link: the log walks to where the

@@ -19,7 +19,7 @@ use Rattle.relay_h1.specs.Verdict.{refused_from}
 use Rattle.relay_h1.specs.declared.framing.Framing.{Framing}
 use Rattle.relay_opening.specs.Told.{head_behind}
 use Rattle.relay_session.specs.Front.{ends_with_head}
-use Rattle.relay_session.specs.Reading.{is_body_done}
+use Rattle.relay_session.specs.Reading.{is_body_empty}
 use Rattle.relay_session.specs.declared.session.HttpSession.{HttpSession}
 
 -- a body of that framing is not empty: its head did not end it
@@ -27,9 +27,9 @@ abbrev pub has_body : Option Framing → Bool
 has_body None = false
 has_body (Some framing) = not (ends_with_head framing)
 
--- the client of a session over HTTP/1, before any of its body was read
+-- the client of a session over HTTP/1
 abbrev pub client_in : HttpSession → Client
-client_in session = record { custom = false; has_body = not (is_body_done session.reading) }
+client_in session = record { custom = false; has_body = not (is_body_empty session.reading) }
 
 -- the client that sent that head over HTTP/1
 abbrev pub client_of : RequestHead → Client

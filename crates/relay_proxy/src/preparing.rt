@@ -122,7 +122,7 @@ fn settled(alloc: Global, client: &HttpSession, filtered: RequestHeader) -> Resu
     }
     let asks = Client {
         custom: false,
-        has_body: !client.is_body_done(),
+        has_body: !client.is_body_empty(),
     };
     match sent_head(alloc, client.req_header(), filtered, Upstream::H1, asks) {
         Ok(sent) => framed(sent),

@@ -7,6 +7,7 @@ use Rattle.relay_session.specs.declared.task_text.Place.{Place}
 use Rattle.relay_proxy.specs.Calls.{IsUnended, allowed_by, log_of}
 use Rattle.relay_proxy.specs.Passed.{World, opened_to}
 use Rattle.relay_proxy.specs.Turn.{world_of}
+use Rattle.relay_proxy.proofs.AgainLemmas.{kept_whole}
 use Rattle.relay_proxy.proofs.CallLemmas.{begun_calls, begun_on, called_logged, none_logged}
 use Rattle.relay_proxy.proofs.HeadSteps.{head_upgrades}
 use Rattle.relay_proxy.proofs.OpenSteps.{head_accepted, stands_first}
@@ -71,7 +72,7 @@ returns-clause-calls g c = λ none.
     begun_calls _ _ c.args.calls.now c.begin_calls.new.calls c.begun_http1-session.result _ _ _ none
     c.new-3.ensures c.in-Ok.ensures.at (ap (λ (p : Place). has_head p)
     (stands_first c.begun_http1-session.result.writing made.response made.output))
-    c.in-Ok.ensures.once (rw c.in-Ok-new.ensures.ok c.in-Ok.ensures.begins)
+    (kept_whole c.begun_http1-session.result.reading made.kept) c.in-Ok.ensures.once (rw c.in-Ok-new.ensures.ok c.in-Ok.ensures.begins)
 
 -- the end does not begin with the first call
 pub returns-in_default-clause-unended : goal.returns-in_default-clause-unended

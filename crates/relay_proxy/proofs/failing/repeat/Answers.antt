@@ -12,7 +12,7 @@ use Rattle.relay_proxy.specs.declared.calls.Opened.{Opened}
 use Rattle.relay_proxy.specs.declared.calls.Opened.TheVariants as led
 use Rattle.relay_proxy.specs.declared.machine.Phase.TheVariants as phase
 use Rattle.relay_proxy.specs.declared.outcome.Outcome.TheVariants as outcome
-use Rattle.relay_proxy.proofs.AgainLemmas.{as_begun_parts, unqueued_parts}
+use Rattle.relay_proxy.proofs.AgainLemmas.{as_begun_parts, kept_whole, unqueued_parts}
 use Rattle.relay_proxy.proofs.CallLemmas.{none_called, one_called, repeats_calls, repeats_logged, repeats_turn, was_treated}
 use Rattle.relay_proxy.proofs.FailSteps.{repeats_called, treated_lost, unasked}
 use Rattle.relay_proxy.proofs.TreatLemmas.{still_open}
@@ -45,6 +45,8 @@ returns-in-GoesOn-clause-calls g c = λ marked b.
     (ap (λ (k : Place). has_head k)
     (unqueued_parts c.args.session.value.writing
     (as_begun_parts c.args.session.value c.requires.begun).1).at)
+    (kept_whole c.args.session.value.reading
+    (as_begun_parts c.args.session.value c.requires.begun).0)
     (rw (c.repeat.ensures, c.deref_mut.ensures.value) at c.in-GoesOn.ensures.turns)
     (sym c.in-GoesOn.ensures.shown) b
 
@@ -93,7 +95,9 @@ returns-in-Answered g c =
           c.call_next.new.client c.args.error c.args.treated c.requires.treated marked
           (ap (λ (k : Place). has_head k)
           (unqueued_parts c.args.session.value.writing
-          (as_begun_parts c.args.session.value c.requires.begun).1).at) turns b);
+          (as_begun_parts c.args.session.value c.requires.begun).1).at)
+          (kept_whole c.args.session.value.reading
+          (as_begun_parts c.args.session.value c.requires.begun).0) turns b);
       cause = λ w x. rw c.closed.ensures.step tt;
       work = rw (c.closed.ensures.step, c.closed.ensures.work) (omega arith);
       called = none_called _ _ c.closed.result.work (rw c.closed.ensures.work refl) same;
