@@ -26,7 +26,7 @@ use Rattle.relay_core.specs.Past.{Origin}
 use Rattle.relay_peer.specs.Body.{IsFrontOf}
 use Rattle.relay_peer.specs.Faults.{IsLast}
 use Rattle.relay_peer.proofs.FaultLemmas.{added_last, grew_none, grew_same, more_none}
-use Rattle.relay_attempt.specs.Order.{FailsFor, WrittenTo, order_of}
+use Rattle.relay_attempt.specs.Order.{FailsFor, WrittenTo, order_of, text_of}
 use Rattle.relay_attempt.specs.Passed.{Passed}
 use Rattle.relay_attempt.proofs.FailLemmas.{blames_still, written_to}
 use Rattle.relay_valid.specs.Valid.{IsValid}
@@ -49,6 +49,7 @@ use Rattle.relay_proxy.specs.declared.outcome.Outcome.TheVariants as outcome
 use Rattle.relay_proxy.specs.declared.owed.Owed.{Owed}
 use Rattle.relay_proxy.specs.declared.owed.Owed.TheVariants.{Refused, Ahead, Served}
 use Rattle.relay_proxy.specs.declared.record.AttemptRecord.{AttemptRecord}
+use Rattle.relay_proxy.proofs.OverLemmas.{over_on}
 use Rattle.relay_proxy.proofs.OpenHead.{turns_down_open, exchange_open}
 use Rattle.relay_proxy.proofs.Tells.{Rose-le, client_took, client_still, take_whole, take_rest}
 use Rattle.relay_proxy.proofs.CutLemmas.{cut_next}
@@ -80,24 +81,27 @@ record Still {o : Origin} {p : Passed} {before link : LinkState} {start : LinkSt
   again : FailsFor o p after link start e
   same : (answered : List HttpTask)
       → owed_text (order_of again) answered ≡ owed_text (order_of why) answered
+  written : (text_of (order_of again)).text ≡ (text_of (order_of why)).text
 
 still : (o : Origin) (p : Passed) (before after link : LinkState) (start : LinkStart) (e : Error)
     → WrittenTo before after → (why : FailsFor o p before link start e) → Still why after
 still o p before after link start e to (FailsFor.by_client order blames) = record {
   again = FailsFor.by_client order (blames_still o _ before after to e blames);
   same = λ x. refl;
+  written = refl;
 }
 still o p before after link start e to (FailsFor.by_peer order lost blames) =
-    record { again = FailsFor.by_peer order lost blames; same = λ x. refl }
+    record { again = FailsFor.by_peer order lost blames; same = λ x. refl; written = refl }
 still o p before after link start e to (FailsFor.by_refusal order refuses) =
-    record { again = FailsFor.by_refusal order refuses; same = λ x. refl }
+    record { again = FailsFor.by_refusal order refuses; same = λ x. refl; written = refl }
 still o p before after link start e to (FailsFor.by_writer order batch unasked read refused) =
     record {
       again = FailsFor.by_writer order batch unasked read refused;
       same = λ x. refl;
+      written = refl;
     }
 still o p before after link start e to (FailsFor.by_cut at order unasked read refused) =
-    record { again = FailsFor.by_cut at order unasked read refused; same = λ x. refl }
+    record { again = FailsFor.by_cut at order unasked read refused; same = λ x. refl; written = refl }
 
 -- an exchange that failed still did, and as much is owed
 record FailedOn {s : Start} {p : Passed} {before link : LinkState} {start : LinkStart} {e : Error}
@@ -123,6 +127,9 @@ failed_on s p written before after link start e failed to =
         treated = failed.treated;
         told = failed.told;
         why = on.again;
+        over = over_on s before after failed.treated.e e failed.before
+            (text_of (order_of failed.why)).text (text_of (order_of on.again)).text to on.written
+            failed.over;
       };
       same = on.same (answered s);
     }
@@ -148,6 +155,7 @@ misses_on s p written before after link start keep e text to (Misses.ahead_of_it
       refused = r.refused;
       treated = r.treated;
       told = r.told;
+      over = r.over;
       fresh = r.fresh;
       unsent = record { got = r.unsent.got; sent = r.unsent.sent };
     }) is

@@ -18,6 +18,7 @@ use Rattle.relay_tasks.specs.declared.Peer.{Peer}
 use Rattle.relay_tasks.specs.declared.hook.Hook.{Hook}
 use Rattle.relay_tasks.specs.declared.hook.Hook.TheVariants as hook
 use Rattle.relay_tasks.specs.declared.log.LogEntry.{LogEntry}
+use Rattle.relay_tasks.specs.declared.log.View.{View}
 use Rattle.relay_tasks.specs.declared.task.HttpTask.{HttpTask}
 use Rattle.relay_links.specs.declared.Returned.{Returned}
 use Rattle.relay_opening.proofs.ToldLemmas.{reads_truncated}
@@ -44,7 +45,7 @@ use Rattle.relay_opening.specs.declared.place.Place.TheVariants as place
 use Rattle.relay_trying.specs.Trying as leads
 use Rattle.relay_trying.specs.Trying.{Treats, may_break, may_follow}
 use Rattle.relay_closing.specs.Place.{may_fail}
-use Rattle.relay_proxy.specs.Calls.{BeginsCalls, BreaksAt, CallsNext, CallsSoFar, CountsCalls, GoesOn, HasBegun, HasCome, IsBreaking, IsLogged, IsOpening, IsOwing, IsRelayingCalls, IsUncalled, IsUncalledEnd, IsUncalledFor, IsUnended, TakesNext, TellsPeer, is_before, is_calling, leads_at, log_of, seen_with, station_at, treated_at}
+use Rattle.relay_proxy.specs.Calls.{BeginsCalls, BreaksAt, CallsNext, CallsSoFar, CountsCalls, GoesOn, HasBegun, HasCome, IsTreatedBefore, IsBreaking, IsLogged, IsOpening, IsOwing, IsRelayingCalls, IsUncalled, IsUncalledEnd, IsUncalledFor, IsUnended, TakesNext, TellsPeer, is_before, is_calling, leads_at, log_of, seen_with, station_at, treated_at}
 use Rattle.relay_proxy.specs.Closing.{Settles}
 use Rattle.relay_proxy.specs.Passed.{begins_end}
 use Rattle.relay_proxy.specs.Sent.{IsTreated, IsUntreated, is_of}
@@ -293,6 +294,13 @@ pub never_again : {K X : Type 0} (a : At K X) (left : HttpSession) (to : Station
 never_again a left to untreated treated is marked open_to kept =
     let clash : None ≡ Some treated = sym untreated ∙ is in cc
 
+-- nor one whose treatment was shown anything
+pub never_viewed : {K X : Type 0} (a : At K X) (left : HttpSession) (log : List LogEntry)
+    (error : Error) → treated_at a ≡ None → (treated : Error) → treated_at a ≡ Some treated
+    → IsTreatedBefore log error treated left
+never_viewed a left log error untreated treated is =
+    let clash : None ≡ Some treated = sym untreated ∙ is in cc
+
 -- where it was, the log tells of that, and it may be answered
 pub was_treated : {K X : Type 0} (a : At K X) (log : List LogEntry) (error treated : Error)
     (here : Station) → treated_at a ≡ Some treated → BreaksAt a log error here
@@ -328,6 +336,13 @@ repeats_at treated seen marked open_to kept =
 
 same_error : (a b : Error) → Some a ≡ Some b → a ≡ b
 same_error a b is = cc
+
+-- what was treated is one error
+viewed_as : (log : List LogEntry) (raised treated other : Error) (left : HttpSession)
+    → IsTreatedBefore log raised treated left → other ≡ treated
+    → IsTreatedBefore log raised other left
+viewed_as log raised treated other left viewed same =
+    subst (λ (e : Error). IsTreatedBefore log raised e left) (sym same) viewed
 
 same_hooks : (a b : Hook) → Some a ≡ Some b → a ≡ b
 same_hooks a b is = cc
@@ -398,6 +413,7 @@ module _ {C M K : Type 0} (allows : Standing → LogEntry → Type 0) (mark_of :
     order = order_more c d (station_at c.at) to turn.e turn.calls.log turn.order o.order;
     breaks = breaks_untreated d.at (log_of d) error to untreated may;
     again = never_again d.at left to untreated;
+    viewed = never_viewed d.at left (log_of d) error untreated;
     unended = unended_more (log_of c) (log_of d) turn.e which turn.calls.log turn.hook before
         o.unended;
   }
@@ -422,6 +438,7 @@ module _ {C M K : Type 0} (allows : Standing → LogEntry → Type 0) (mark_of :
         (sym same) o.order;
     breaks = breaks_untreated d.at (log_of d) error (station_at c.at) untreated may;
     again = never_again d.at left (station_at c.at) untreated;
+    viewed = never_viewed d.at left (log_of d) error untreated;
     unended = subst (λ (x : Calls M K C). IsUnended (log_of x)) (sym same) o.unended;
   }
 
@@ -467,6 +484,23 @@ module _ {C M K : Type 0} (allows : Standing → LogEntry → Type 0) (mark_of :
               t.call.input t.call.output,
           may_answer (may_follow treated (seen_with c client)),
         );
+        viewed = λ other is_other. viewed_as (log_of d) raised treated other left (record {
+          was = record {
+            before = log_of c;
+            e = e;
+            after = [];
+            called_are = t.call.turn.calls.log;
+            is_last = refl;
+            is_treatment = t.call.turn.hook;
+            told = t.call.input;
+            answered = t.call.output;
+          };
+          final_head = ap (λ (v : View). v.final_head) t.call.view
+              ∙ ap (λ (x : Writing). has_head x.place) (sym t.call.turn.queued.same);
+          truncated = ap (λ (v : View). v.truncated) t.call.view
+              ∙ sym (reads_truncated (seen_with c client) (seen_with d left)
+              t.call.turn.calls.reads);
+        }) (same_error other treated (sym is_other ∙ ap (λ (a : At K C). treated_at a) is));
         again = λ other is_other marked open_to whole. repeats_at treated (seen_with c client)
             (subst (λ (x : Error). may_retry x.retry ≡ true)
             (same_error other treated (sym is_other ∙ ap (λ (a : At K C). treated_at a) is)) marked)

@@ -45,7 +45,7 @@ use Rattle.relay_peer.specs.Body.{IsFrontOf}
 use Rattle.relay_attempt.specs.Order.{order_of, queued_in}
 use Rattle.relay_attempt.specs.Passed.{Passed}
 use Rattle.relay_proxy.specs.Answer.{answer_to, owed_text, WaitsOf}
-use Rattle.relay_proxy.specs.Calls.{CallsNext, GoesOn, IsUnended, TakesNext, leads_at, log_of, seen_with}
+use Rattle.relay_proxy.specs.Calls.{CallsNext, GoesOn, IsTreatedBefore, IsUnended, TakesNext, leads_at, log_of, seen_with}
 use Rattle.relay_proxy.specs.Endings.{IsInOrder, IsGiven, FailsToWrite, IsPartRelayed, Misses}
 use Rattle.relay_proxy.specs.Leaving.{Answers}
 use Rattle.relay_proxy.specs.Legs.{FailsAgain, RepeatsOn}
@@ -53,7 +53,7 @@ use Rattle.relay_proxy.specs.Passed.{World, Start, based, called_to, closed_to, 
 use Rattle.relay_proxy.specs.Phases.{IsBroken, IsCalm, IsGoing, IsLeased, LeavesAhead, LeavesSession, PhaseHolds, RunSoFar}
 use Rattle.relay_proxy.specs.Relayable.{IsAccepted}
 use Rattle.relay_proxy.specs.Sent.{IsAnswered, IsTreated}
-use Rattle.relay_proxy.specs.Tries.{MayTry, tries_in}
+use Rattle.relay_proxy.specs.Tries.{MayTry, made_before, tries_in}
 use Rattle.relay_proxy.specs.Turn.{Advances}
 use Rattle.relay_proxy.specs.declared.calls.At.{At}
 use Rattle.relay_proxy.specs.declared.calls.At.TheVariants as at
@@ -68,7 +68,8 @@ use Rattle.relay_proxy.proofs.AnswerSteps.{ends_missed}
 use Rattle.relay_proxy.proofs.CutLemmas.{cut_next}
 use Rattle.relay_proxy.proofs.NamedLemmas.{TellsSame, tells_same}
 use Rattle.relay_proxy.proofs.OpenHead.{exchange_open}
-use Rattle.relay_proxy.proofs.OpenSteps.{begins_on, called_accepted, called_tells, closed_accepted, closed_tells, left_on, once_goes_on, once_open, once_request, stays_connecting, wrote_on}
+use Rattle.relay_proxy.proofs.OpenSteps.{begins_on, called_accepted, called_tells, closed_accepted, closed_tells, left_on, once_goes_on, once_open, once_request, stands_first, stays_connecting, wrote_on}
+use Rattle.relay_proxy.proofs.OverLemmas.{begins_anew, made_as, over_as}
 use Rattle.relay_proxy.proofs.PrepareSteps.{leased_on}
 use Rattle.relay_proxy.proofs.TreatLemmas.{refuses_on, sends_on, still_open, unended_more}
 
@@ -422,12 +423,18 @@ closed_session s log closed p client ahead link start session raised l = record 
 module _ {L C : Type 0} (state : L → LinkState) (start_at : L → LinkStart) (s : Start)
     (log closed : List LogEntry) (p : Passed) (w : World) (context : C)
     (session : Box HttpSession) (left : Writing) (link : L) (lease : Lease) (keep : Bool)
-    (raised treated : Error) (is_treated : IsTreated log raised treated)
-    (told : IsAnswered closed treated)
+    (raised treated : Error) (v : IsTreatedBefore log raised treated session.value)
+    (stops : MayTry s.most (1 + length (tries_in lease)) treated
+    → may_begin_again session.value ≡ false) (told : IsAnswered closed treated)
     (queues : QueuesOnce session.value.writing left (wrote_in closed))
     (run : RunSoFar {C = C} state start_at (opened_to s log) p w []
     (Broken context session link lease keep raised))
   where
+    -- so many attempts came before it
+    made : length (tries_in lease) ≡ made_before (closed_to s log closed)
+    made = made_as (closed_to s log closed) (tries_in lease)
+        (closed_leased s log closed p (state link) (start_at link) lease run.holds.0).tries
+
     -- what is owed behind the exchange
     owing_in : LeavesSession (opened_to s log) p w.client w.ahead (state link) (start_at link)
         session.value raised → keep ≡ false
@@ -444,9 +451,12 @@ module _ {L C : Type 0} (state : L → LinkState) (start_at : L → LinkStart) (
             sends = l.sends;
             before = p.written;
             raised = raised;
-            treated = is_treated;
+            treated = v.was;
             told = told;
             why = l.why;
+            over = over_as (closed_to s log closed) w.client raised treated log session.value v
+                (request_of l.head) (queued_in (order_of l.why)) p.written l.answers l.holds l.broken
+                (rw l.is_left refl) (length (tries_in lease)) made stops;
           }) refl kept;
           queued = queued_by (closed_to s log closed) p w.client w.ahead (state link)
               (start_at link) session.value left raised (wrote_in closed) l queues;
@@ -465,8 +475,13 @@ module _ {L C : Type 0} (state : L → LinkState) (start_at : L → LinkStart) (
             accepted = closed_accepted s log closed p l.connecting.head l.connecting.accepted;
             raised = raised;
             refused = l.why;
-            treated = is_treated;
+            treated = v.was;
             told = told;
+            over = λ may. true≢false (
+              sym (begins_anew session.value begins.kept
+                  (stands_first session.value.writing begins.response begins.output) begins.output)
+              ∙ stops (subst (λ (n : ℕ). MayTry s.most (1 + n) treated) (sym made) may)
+            );
             fresh = subst (λ (b : Bool). IsHandedOut (state link) (start_at link) b)
                 (sym l.fresh.marked) l.fresh;
             unsent = l.connecting.unsent;

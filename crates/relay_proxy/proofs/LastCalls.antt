@@ -59,7 +59,7 @@ use Rattle.relay_proxy.specs.declared.record.AttemptRecord.{AttemptRecord}
 use Rattle.relay_proxy.specs.declared.work.Work.{Work}
 use Rattle.relay_proxy.specs.Relaying.{is_relaying}
 use Rattle.relay_proxy.specs.Tries.{fault_error, tries_in}
-use Rattle.relay_proxy.proofs.CallLemmas.{never_again, none_logged, opening_logged, views_on, walk_further}
+use Rattle.relay_proxy.proofs.CallLemmas.{never_again, never_viewed, none_logged, opening_logged, views_on, walk_further}
 
 -- ---- what `logging` was told
 
@@ -648,6 +648,8 @@ module _ {L C M K : Type 0} (allows : Standing → LogEntry → Type 0) (mark_of
         breaks = subst (λ (a : At K C). BreaksAt a (log_of calls) error station.sent)
             (sym so_far.linked) refl;
         again = never_again calls.at session.value station.sent
+            (ap (λ (a : At K C). treated_at a) so_far.linked);
+        viewed = never_viewed calls.at session.value (log_of calls) error
             (ap (λ (a : At K C). treated_at a) so_far.linked);
         unended = so_far.unended;
       })

@@ -10,6 +10,7 @@ pub mod ClosingSteps
 pub mod ConnectSteps
 pub mod RefusedCalls
 pub mod OpenSteps
+pub mod OverLemmas
 pub mod UnlinkedSteps
 pub mod CallLemmas
 pub mod LastCalls

@@ -375,6 +375,13 @@ pub record KeepsValue (log : List LogEntry) : Type 0 where
   pub asks : last.hook ≡ hook.PersistConnectionContext
   pub keeps : last.output ≡ item.Kept true
 
+-- the error of an attempt was treated so, and the call was shown how the session stands
+pub record IsTreatedBefore (called : List LogEntry) (raised treated : Error) (client : HttpSession)
+    : Type 0 where
+  pub was : IsTreated called raised treated
+  pub final_head : was.e.view.final_head ≡ has_head client.writing.place
+  pub truncated : was.e.view.truncated ≡ is_truncated client.reading
+
 -- the error of an attempt may be treated at that station; or it was, and is to be answered there
 abbrev pub BreaksAt : {K X : Type 0} → At K X → List LogEntry → Error → Station → Type 0
 BreaksAt (at.Kept kept) log error here = IsTrue (may_break here)
@@ -515,6 +522,8 @@ module _ {C M K : Type 0} (allows : Standing → LogEntry → Type 0) (mark_of :
     pub again : (treated : Error) → treated_at calls.at ≡ Some treated
         → may_retry treated.retry ≡ true → has_head client.writing.place ≡ false
         → is_truncated client.reading ≡ false → at ≡ station.repeatable
+    pub viewed : (treated : Error) → treated_at calls.at ≡ Some treated
+        → IsTreatedBefore (log_of calls) error treated client
     pub unended : IsUnended (log_of calls)
 
   -- the calls so far of a request whose last attempt was given no link: the log walks to where the

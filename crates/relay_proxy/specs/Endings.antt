@@ -1,5 +1,5 @@
 -- How a request may end: each outcome with its cause, in terms of what passed.
-use Rattle.std.specs.Prelude.{◌≡◌, ◌≢◌, ◌⊎◌, ◌↔◌, IsTrue, ℕ, Bool, true, false, List, [], ◌∷◌, ◌++◌, Option, None, Some}
+use Rattle.std.specs.Prelude.{◌≡◌, ◌≢◌, ◌⊎◌, ◌↔◌, IsTrue, ℕ, ◌+◌, Bool, true, false, List, [], ◌∷◌, ◌++◌, Option, None, Some}
 use Rattle.std.specs.List.{list_any}
 use Rattle.http.specs.declared.version.TheConstants.Version.{HTTP_11}
 use Rattle.relay_tasks.specs.Error.{explained}
@@ -21,12 +21,13 @@ use Rattle.relay_h1.specs.Wire.{generated}
 use Rattle.relay_h1.specs.declared.framing.Framing.{Framing}
 use Rattle.relay_authority.specs.Entry.{Entered}
 use Rattle.relay_session.specs.Reading.{IsWhole}
+use Rattle.relay_phases.specs.Order.{may_try_again}
 use Rattle.relay_core.specs.Past.{Origin}
 use Rattle.relay_peer.specs.Body.{IsFrontOf, body_of}
 use Rattle.relay_peer.specs.Faults.{IsAmong, IsLast}
 use Rattle.relay_sides.specs.Filtered.{asks_to_close}
 use Rattle.relay_attempt.specs.Order as exchange
-use Rattle.relay_attempt.specs.Order.{EndsEarly, FailsFor, order_of, IsInOrderWith, IsRelayed, HasEnded, MayServe, SendsShort}
+use Rattle.relay_attempt.specs.Order.{EndsEarly, FailsFor, order_of, text_of, IsInOrderWith, IsRelayed, HasEnded, MayServe, SendsShort}
 use Rattle.relay_attempt.specs.Agrees.{Agrees}
 use Rattle.relay_attempt.specs.Passed.{Passed}
 use Rattle.relay_valid.specs.Valid.{IsValid}
@@ -36,7 +37,7 @@ use Rattle.relay_proxy.specs.Named.{IsNamed}
 use Rattle.relay_proxy.specs.Relayable.{IsAccepted, IsConnect, IsRelayable, NamesUpgrade}
 use Rattle.relay_proxy.specs.Passed.{World, Start, answered, origin_of, asked, TellsClient, TellsLink, IsUnsent, IsUntouched}
 use Rattle.relay_proxy.specs.Sent.{Sends, RefusesToSend, IsAnswered, IsTreated, IsUntreated}
-use Rattle.relay_proxy.specs.Tries.{AreTries, EndsTrying, IsRefusedFor, LosesTry, fault_error}
+use Rattle.relay_proxy.specs.Tries.{AreTries, EndsTrying, IsRefusedFor, LosesTry, MayTry, fault_error, made_before}
 use Rattle.relay_proxy.specs.declared.outcome.Outcome.{Outcome}
 use Rattle.relay_proxy.specs.declared.outcome.Outcome.TheVariants.{NoRequest, Refused, Served, TurnLimit, OutOfMemory}
 use Rattle.relay_proxy.specs.declared.record.AttemptRecord.{AttemptRecord}
@@ -305,8 +306,18 @@ pub record IsRelayedEarly
   pub behind : HasEnded early.order
       → IsWhole (asked s p) (body_of early.order.pieces) w.ahead
 
+-- why no other attempt follows one whose error was treated so in that call: none may, behind so
+-- many; or a final head was queued, or bytes of the body were read that are kept no longer, as the
+-- call was shown; or a part of what was queued for the client was not written
+pub data IsOver (s : Start) (client : LinkState) (call : LogEntry) (is_written : Type 0) (e : Error)
+    : Type 0 where
+  is_last : ¬ (MayTry s.most (1 + made_before s) e) → IsOver s client call is_written e
+  is_told : may_try_again call ≡ false → IsOver s client call is_written e
+  waits : ¬ is_written → IsOver s client call is_written e
+  is_broken : FailsToWrite s client → IsOver s client call is_written e
+
 -- an exchange failed, when a part of what was queued had been written, and its error was treated:
--- that is what was made of it, and was answered
+-- that is what was made of it, and was answered, since no other attempt could follow
 pub record HasFailed
     (s : Start) (p : Passed) (client link : LinkState) (start : LinkStart) (e : Error)
     : Type 0 where
@@ -320,6 +331,7 @@ pub record HasFailed
   pub told : IsAnswered s.closed e
   pub why : FailsFor (origin_of s head sent start.reused) (past_at p before) client link start
       raised
+  pub over : IsOver s client treated.e (before ≡ (text_of (order_of why)).text) e
 
 -- what was queued for the client in it, and then the answer to its error
 abbrev pub owed_by : {s : Start} {p : Passed} {client link : LinkState} {start : LinkStart}
@@ -337,6 +349,7 @@ pub record IsRefusedAhead (s : Start) (p : Passed) (link : LinkState) (start : L
   pub refused : RefusesToSend s.called head keep raised
   pub treated : IsTreated s.called raised e
   pub told : IsAnswered s.closed e
+  pub over : ¬ (MayTry s.most (1 + made_before s) e)
   pub fresh : IsHandedOut link start start.reused
   pub unsent : IsUnsent p
 

@@ -1,7 +1,7 @@
 -- The attempts of a request that were given no link, as its calls tell them, and when another
 -- follows: nothing was sent in them, so each request may be tried again (RFC 9110, section 9.2.2).
 -- Those that had a link stand beside them, as they were recorded.
-use Rattle.std.specs.Prelude.{◌≡◌, ◌≢◌, ℕ, ◌<◌, ◌≤◌, false, true, All, drop, List, [], ◌∷◌, ◌++◌, length, map, Option, None, Some, if◌then◌else◌}
+use Rattle.std.specs.Prelude.{◌≡◌, ◌≢◌, ℕ, ◌+◌, ◌<◌, ◌≤◌, false, true, All, drop, List, [], ◌∷◌, ◌++◌, length, map, Option, None, Some, if◌then◌else◌}
 use Rattle.relay_tasks.specs.Error.{error_of_fault, may_retry}
 use Rattle.relay_tasks.specs.Hooks.{same_hook}
 use Rattle.relay_tasks.specs.declared.Error.{Error}
@@ -104,6 +104,11 @@ pub record IsTry (r : Refusal) : Type 0 where
 -- the refusals of which the calls tell behind the last attempt that had a link and was tried again
 abbrev pub refusals_since : Start → List Refusal
 refusals_since s = drop s.refused (refusals_in s.called)
+
+-- how many attempts came before the last: those up to the last that had a link and was tried again,
+-- and those of which the calls tell
+abbrev pub made_before : Start → ℕ
+made_before s = length s.tried + length (refusals_since s)
 
 -- the attempts before another one are those up to the last that had a link and was tried again, and
 -- then those of which the calls tell: each was refused so, and one more was allowed

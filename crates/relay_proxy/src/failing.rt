@@ -1,6 +1,6 @@
 //! An attempt that failed: the application treats its error; and then another attempt follows, or
 //! the application answers the client for what it made of it (RFC 9110, sections 9.2.2 and 15).
-ghost use Rattle.std.specs.Prelude.{◌≡◌, ◌⊎◌, ◌+◌, ◌≤◌, [], ◌∷◌, length, ℕ, None, Some, true};
+ghost use Rattle.std.specs.Prelude.{◌≡◌, ◌⊎◌, ◌↔◌, ◌+◌, ◌≤◌, [], ◌∷◌, length, ℕ, None, Some, true, false, IsTrue};
 ghost use Rattle.relay_tasks.specs.Error.{may_retry};
 ghost use Rattle.relay_session.specs.Session.{may_begin_again};
 ghost use Rattle.relay_attempt.specs.Passed.{Passed};
@@ -74,7 +74,7 @@ pub(crate) fn fail<SV: ProxyHttp, L: ByteLink>(
     match calls.treated() {
         None => treat_broken(app, calls, context, session, link, lease, keep, error),
         Some(treated) => {
-            if may_try(most, lease.room.made(), &treated) && session.may_begin_again() {
+            if may_repeat(most, lease.room.made(), &treated, &session) {
                 return repeat(
                     app, calls, context, session, link, lease, keep, error, treated,
                 );
@@ -84,6 +84,16 @@ pub(crate) fn fail<SV: ProxyHttp, L: ByteLink>(
             )
         }
     }
+}
+
+/// Whether another attempt follows the last of so many, which failed with that error, as it was
+/// treated: the error is marked so, the request has made fewer than `most`, and its session stands
+/// so that another may begin with it.
+fn may_repeat(most: usize, made: usize, error: &Error, session: &HttpSession) -> bool
+    ensures { IsTrue result
+        ↔ (MayTry most made error.now × (may_begin_again session.now ≡ true)) }
+{
+    may_try(most, made, error) && session.may_begin_again()
 }
 
 /// Another attempt follows the one that failed with that error, as it was treated: the application
@@ -217,6 +227,8 @@ fn answer_broken<SV: ProxyHttp, L: ByteLink>(
 ) -> Next<L, SV::CTX>
     requires { treated_at calls.old.at ≡ Some treated }
     ensures run { (s : Start) (p : Passed) (w : World)
+        → (MayTry s.most (1 + length (tries_in lease)) treated
+        → may_begin_again session.value ≡ false)
         → CallsSoFar {L = L} (allowed_by (SV.allows app.now) SV.Modules.allows)
         (SV.mark_of app.now) calls.old (Phase.Broken context session link lease keep error)
         → RunSoFar {C = SV.CTX} L.state L.start (called_to s (log_of calls.old)) p w []

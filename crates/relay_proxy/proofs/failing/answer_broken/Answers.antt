@@ -21,7 +21,7 @@ use Rattle.relay_proxy.proofs.failing.answer_broken.Goals as goal
 
 -- it is answered
 pub returns-in-Ok-clause-run : goal.returns-in-Ok-clause-run
-returns-in-Ok-clause-run g c = λ s p w b run.
+returns-in-Ok-clause-run g c = λ s p w stops b run.
     let was = was_treated c.args.calls.now.at (log_of c.args.calls.now) c.args.error c.args.treated
     b.at c.requires b.breaks in
     let h = rw c.deref_mut.ensures.value at (c.in-Ok.ensures.answers b.at was.1) in
@@ -34,7 +34,7 @@ returns-in-Ok-clause-run g c = λ s p w b run.
     answers.turn.calls.log b.unended (ap (λ (h : Hook). same_hook hook.FailToProxy h) answers.turn.hook)))
     (answered_on g.L.ByteLink.state g.L.ByteLink.start s (log_of c.args.calls.now)
     (answers.turn.e ∷ []) p w c.args.context c.args.session _ c.args.link c.args.lease c.args.keep
-    c.args.error c.args.treated was.0 (answered_by _ answers) (queued_by _ answers)
+    c.args.error c.args.treated (b.viewed c.args.treated c.requires) stops (answered_by _ answers) (queued_by _ answers)
     (subst
     (λ (t : Start). RunSoFar g.L.ByteLink.state g.L.ByteLink.start t p w []
     (phase.Broken c.args.context c.args.session c.args.link c.args.lease c.args.keep c.args.error))
@@ -63,7 +63,7 @@ returns-in-Ok-clause-called g c =
 
 -- memory was wanted
 pub returns-in-Err-clause-run : goal.returns-in-Err-clause-run
-returns-in-Err-clause-run g c = λ s p w b run.
+returns-in-Err-clause-run g c = λ s p w stops b run.
     let now = subst (λ (l : List LogEntry). IsUnended l) (sym c.in-Err.ensures.lost) b.unended in
     rw c.closed.ensures.phase
     (subst
