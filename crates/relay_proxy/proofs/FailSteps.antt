@@ -478,10 +478,10 @@ module _ {L C : Type 0} (state : L → LinkState) (start_at : L → LinkStart) (
             treated = v.was;
             told = told;
             over = λ may. true≢false (
-              sym (begins_anew session.value begins.kept
-                  (stands_first session.value.writing begins.response begins.output) begins.output)
-              ∙ stops (subst (λ (n : ℕ). MayTry s.most (1 + n) treated) (sym made) may)
-            );
+                sym (begins_anew session.value begins.kept
+                (stands_first session.value.writing begins.response begins.output) begins.output)
+                ∙ stops (subst (λ (n : ℕ). MayTry s.most (1 + n) treated) (sym made) may)
+                );
             fresh = subst (λ (b : Bool). IsHandedOut (state link) (start_at link) b)
                 (sym l.fresh.marked) l.fresh;
             unsent = l.connecting.unsent;

@@ -107,8 +107,11 @@ module _ (s : Start) (client : LinkState) (raised treated : Error) (called : Lis
         nothing_more : (front rest : List ℕ) → front ≡ front ++ rest → rest ≡ []
         nothing_more front [] same = refl
         nothing_more front (b ∷ rest) same =
-            absurd (omega (arith, ap (λ (xs : List ℕ). length xs) same,
-            length-append front (b ∷ rest)))
+            absurd (omega (
+              arith,
+              ap (λ (xs : List ℕ). length xs) same,
+              length-append front (b ∷ rest),
+            ))
     by_output (outgoing.Broken fault) is waits = IsOver.is_broken (fails fault is)
 
     -- a final head was queued, or something waits

@@ -91,46 +91,46 @@ begins s came link ahead session b =
     let done = is_body_done session.reading in
     let kept = kept_body (s.ahead ++ came) b.body ahead session.reading b.request b.kept in
     record {
-  client = record {
-    came = b.gave;
-    written = b.written;
-    faults = b.faults;
-    head = b.head;
-    own = b.own;
-    framing = b.framing;
-    len = b.len;
-    has = b.has;
-    has_head = b.has_head;
-    answers = b.answers;
-    body = b.body;
-    request = b.request;
-    joined = subst (λ (kept : Option (List ℕ)). body_of (first_put kept done) ≡ b.body) (sym kept)
-        (first_body b.body done);
-    some = subst (λ (kept : Option (List ℕ)). HaveSome (first_put kept done)) (sym kept)
-        (first_some b.body done);
-    ended = λ is. sym (end_is (retry_buffer (replay_of session.reading)) done) ∙ is;
-    whole = λ over. end_is (retry_buffer (replay_of session.reading)) done ∙ over;
-    headed = b.headed;
-    told_whole = b.whole;
-    response = b.response;
-    broken = λ fault is.
-        absurd (open_is_whole session.writing.output [] fault b.output is);
-    tells = b.tells;
-  };
-  over = λ done. absurd (cc);
-  plain = refl;
-  plain_end = refl;
-  place_over = λ done. absurd (cc);
-  said = λ over.
-      let at = stands_at session.writing session.writing.output [] [] b.response in
-      let wrong : false ≡ true = ap is_over at ∙ over in
-      absurd (cc);
-  unasked = λ is. refl;
-  asked = λ finished. absurd (cc);
-  closed = λ finished. absurd (cc);
-  unbroken = λ none. ([], b.output);
-  fault = λ f is. absurd (cc);
-}
+      client = record {
+        came = b.gave;
+        written = b.written;
+        faults = b.faults;
+        head = b.head;
+        own = b.own;
+        framing = b.framing;
+        len = b.len;
+        has = b.has;
+        has_head = b.has_head;
+        answers = b.answers;
+        body = b.body;
+        request = b.request;
+        joined = subst (λ (kept : Option (List ℕ)). body_of (first_put kept done) ≡ b.body) (sym kept)
+            (first_body b.body done);
+        some = subst (λ (kept : Option (List ℕ)). HaveSome (first_put kept done)) (sym kept)
+            (first_some b.body done);
+        ended = λ is. sym (end_is (retry_buffer (replay_of session.reading)) done) ∙ is;
+        whole = λ over. end_is (retry_buffer (replay_of session.reading)) done ∙ over;
+        headed = b.headed;
+        told_whole = b.whole;
+        response = b.response;
+        broken = λ fault is.
+            absurd (open_is_whole session.writing.output [] fault b.output is);
+        tells = b.tells;
+      };
+      over = λ done. absurd (cc);
+      plain = refl;
+      plain_end = refl;
+      place_over = λ done. absurd (cc);
+      said = λ over.
+          let at = stands_at session.writing session.writing.output [] [] b.response in
+          let wrong : false ≡ true = ap is_over at ∙ over in
+          absurd (cc);
+      unasked = λ is. refl;
+      asked = λ finished. absurd (cc);
+      closed = λ finished. absurd (cc);
+      unbroken = λ none. ([], b.output);
+      fault = λ f is. absurd (cc);
+    }
 
 -- a request whose body has ended is whole
 pub reading_whole : (given body ahead : List ℕ) (now : Reading) → RequestSoFar given body ahead now
