@@ -1,6 +1,6 @@
 //! One exchange between a client and an HTTP/1 link to a peer (RFC 9112, sections 6, 7 and 9.3).
 ghost use Rattle.std.specs.declared.alloc.Global.{Global};
-ghost use Rattle.std.specs.Prelude.{◌≡◌, ◌↔◌, Bool, ℕ, List, [], None, false, IfOk, IfErr, IsOkUnless, OnOk};
+ghost use Rattle.std.specs.Prelude.{◌≡◌, ◌↔◌, Bool, ℕ, List, [], None, false, IfOk, IfErr, IsOkUnless};
 ghost use Rattle.relay_tasks.specs.Error.{IsMemoryOr};
 ghost use Rattle.relay_links.specs.Link.{LinkState, IsHandedOut};
 ghost use Rattle.relay_h1.specs.Framing.{request_framing};
@@ -47,11 +47,11 @@ impl<L: ByteLink> H1Exchange<L> {
     /// ended: so it is sent from its first byte on, as `head` frames it.
     ///
     /// `InvalidHTTPHeader` of the source `Internal`, about `BadFraming`: exactly where
-    /// `request_framing` refuses the head. Then, and where memory is wanted, also to join what was
+    /// `request_framing` refuses the head. Then, and where memory is wanted, also for what was
     /// kept, the link comes back, and the session is dropped.
     pub fn begin(
         alloc: Global,
-        mut session: HttpSession,
+        session: HttpSession,
         link: L,
         head: RequestHeader,
     ) -> std::result::Result<H1Exchange<L>, Unbegun<L>>
@@ -78,7 +78,7 @@ impl<L: ByteLink> H1Exchange<L> {
                 why,
             });
         }
-        let first = match first_piece(alloc, &mut session) {
+        let first = match first_piece(alloc, &session) {
             Ok(first) => first,
             Err(why) => {
                 return Err(Unbegun {
@@ -208,11 +208,10 @@ impl<L> H1Exchange<L> {
 /// where the body has ended.
 ///
 /// Fails out of memory alone.
-fn first_piece(alloc: Global, session: &mut HttpSession) -> Result<Piece>
-    ensures ok { IfOk result (λ piece. put_of false piece ≡ put_again session.old) }
+fn first_piece(alloc: Global, session: &HttpSession) -> Result<Piece>
+    ensures ok { IfOk result (λ piece. put_of false piece ≡ put_again session.now) }
     ensures end { IfOk result (λ piece. piece.upstream_end
-        ≡ is_body_done session.old.reading) }
-    ensures same { OnOk result (session.new ≡ session.old) }
+        ≡ is_body_done session.now.reading) }
     ensures memory { IsOkUnless result Fail.OutOfMemory }
 {
     let kept = session.get_retry_buffer(alloc)?;

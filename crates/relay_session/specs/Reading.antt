@@ -58,11 +58,6 @@ abbrev pub replay_of : Reading → Replay
 replay_of reading.Head = replay.Kept []
 replay_of (reading.Body request) = request.replay
 
--- the reading with that in its place
-abbrev pub with_replay : Reading → Replay → Reading
-with_replay reading.Head kept = reading.Head
-with_replay (reading.Body request) kept = reading.Body (record request { replay = kept })
-
 -- a head was read, and all bytes of the body that were given out are kept
 abbrev pub is_kept : Reading → Bool
 is_kept reading.Head = false

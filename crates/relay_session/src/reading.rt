@@ -1,6 +1,6 @@
 //! How the request of a client is read: its head, and its body piece by piece (RFC 9112, sections
 //! 2, 3, 6 and 7).
-ghost use Rattle.std.specs.Prelude.{◌≡◌, ◌↔◌, ◌<◌, ◌≤◌, ◌⊎◌, ℕ, List, [], ◌&&◌, ◌||◌, ◌==◌, not, ◌++◌, OnOk, OnErr, true, false, length, drop, min, None, Some, IsSome, IsTrue, IfOk, IsOkUnless};
+ghost use Rattle.std.specs.Prelude.{◌≡◌, ◌↔◌, ◌<◌, ◌≤◌, ◌⊎◌, ℕ, List, [], ◌&&◌, ◌||◌, ◌==◌, not, ◌++◌, true, false, length, drop, min, None, Some, IsSome, IsTrue, IfOk, IsOkUnless};
 ghost use Rattle.std.specs.Borrow.{sem};
 ghost use Rattle.relay_tasks.specs.Head.{RequestHead};
 ghost use Rattle.relay_links.specs.Count.{last_count};
@@ -12,7 +12,7 @@ ghost use Rattle.relay_session.specs.Front.{Watches};
 ghost use Rattle.relay_session.specs.HeadLent.{LendsHead};
 ghost use Rattle.relay_session.specs.Summary.{without_body_fields};
 ghost use Rattle.relay_session.specs.Replay.{most_kept, retry_buffer};
-ghost use Rattle.relay_session.specs.Reading.{head_of, with_head, with_replay, replay_of, is_body_done, is_body_empty, is_kept, is_truncated, received, begun, RequestSoFar, IsInBody, IsWhole, IsItem, ReadsOn, ReadsRest, ReadsLink, EndsBy};
+ghost use Rattle.relay_session.specs.Reading.{head_of, with_head, replay_of, is_body_done, is_body_empty, is_kept, is_truncated, received, begun, RequestSoFar, IsInBody, IsWhole, IsItem, ReadsOn, ReadsRest, ReadsLink, EndsBy};
 
 use crate::front::{Front, ends_with_head};
 use crate::replay::Replay;
@@ -245,19 +245,16 @@ impl Reading {
         }
     }
 
-    /// The bytes of the body that were given out and are kept, as one run; they stay kept. None
-    /// where there are none.
+    /// The bytes of the body that were given out and are kept. None where there are none.
     ///
-    /// Fails out of memory alone; then they are kept no longer.
-    pub(crate) fn get_retry_buffer(&mut self, alloc: Global) -> Result<Option<Bytes>>
-        ensures ok { IfOk result (λ bytes. bytes ≡ retry_buffer (replay_of self.old)) }
+    /// Fails out of memory alone.
+    pub(crate) fn get_retry_buffer(&self, alloc: Global) -> Result<Option<Bytes>>
+        ensures ok { IfOk result (λ bytes. bytes ≡ retry_buffer (replay_of self.now)) }
         ensures memory { IsOkUnless result Fail.OutOfMemory }
-        ensures same { OnOk result (self.new ≡ self.old) }
-        ensures lost { OnErr result (self.new ≡ with_replay self.old Replay.Lost) }
     {
         match self {
             Reading::Head => Ok(None),
-            Reading::Body(request) => request.replay.joined(alloc),
+            Reading::Body(request) => request.replay.retry_buffer(alloc),
         }
     }
 

@@ -1,11 +1,12 @@
 //! The bytes of a request's body that are kept, so that another attempt sends them again from the
 //! first one on (RFC 9110, section 9.2.2).
-ghost use Rattle.std.specs.Prelude.{◌≡◌, List, [], ◌++◌, ℕ, length, IfOk, IsOkUnless, OnOk, OnErr};
-ghost use Rattle.relay_session.specs.Replay.{Keeps, is_kept, some_bytes, retry_buffer};
+ghost use Rattle.std.specs.Prelude.{◌≡◌, List, [], ◌++◌, ℕ, IfOk, IsOkUnless, OnOk};
+ghost use Rattle.relay_session.specs.Replay.{Keeps, is_kept, retry_buffer};
 
-use bytes::{Bytes, BytesQueue};
+use bytes::Bytes;
 use relay_tasks::{Fail, Result};
 use std::alloc::Global;
+use std::marker::Model;
 
 /// How many bytes of a body are kept at most.
 const MOST_KEPT: usize = 65_536;
@@ -13,12 +14,48 @@ const MOST_KEPT: usize = 65_536;
 /// What is kept of the bytes of a body that were given out.
 #[derive(Drop)]
 pub(crate) enum Replay {
-    /// All of them, in the pieces in which they came; none is copied.
-    Kept(BytesQueue),
+    /// All of them.
+    Kept(Run),
     /// None: they are more than are kept.
     Truncated,
     /// None: memory was wanted to keep them.
     Lost,
+}
+
+/// Bytes that were copied one behind the other, so that a body that comes in small pieces takes no
+/// more memory than another. It is seen as the list of them.
+#[derive(Drop)]
+pub(crate) struct Run {
+    bytes: Vec<u8>,
+}
+
+impl Model for Run {
+    ghost use Rattle.std.specs.Prelude.{List, ℕ};
+
+    ghost Value = { List ℕ };
+
+    ghost view = { λ run. run.bytes.items };
+}
+
+impl Run {
+    /// No bytes. It has taken no memory.
+    fn new(alloc: Global) -> Run
+        ensures { result ≡ [] }
+    {
+        Run {
+            bytes: Vec::new(alloc),
+        }
+    }
+
+    /// Copies that piece behind them, where it makes them no more than are kept.
+    ///
+    /// Fails out of memory alone.
+    fn push(&mut self, piece: &[u8]) -> Result<()>
+        ensures ok { OnOk result (self.new ≡ self.old ++ piece.now) }
+    {
+        self.bytes.extend_from_slice(piece)?;
+        Ok(())
+    }
 }
 
 impl Replay {
@@ -26,21 +63,21 @@ impl Replay {
     pub(crate) fn new(alloc: Global) -> Replay
         ensures { result ≡ Replay.Kept [] }
     {
-        Replay::Kept(BytesQueue::new(alloc))
+        Replay::Kept(Run::new(alloc))
     }
 
     /// Keeps one more piece, which was given out behind the others.
     pub(crate) fn keep(&mut self, piece: &Bytes)
         ensures { (body : List ℕ) → Keeps body self.old → Keeps (body ++ piece.now) self.new }
     {
-        let Replay::Kept(pieces) = self else {
+        let Replay::Kept(run) = self else {
             return;
         };
-        if piece.len() > MOST_KEPT.saturating_sub(pieces.len()) {
+        if piece.len() > MOST_KEPT.saturating_sub(run.bytes.len()) {
             *self = Replay::Truncated;
             return;
         }
-        if push(pieces, piece).is_err() {
+        if run.push(piece.as_slice()).is_err() {
             *self = Replay::Lost;
         }
     }
@@ -55,56 +92,17 @@ impl Replay {
         }
     }
 
-    /// What is kept as one run, which stays kept. None where nothing is.
+    /// What is kept, for another attempt. None where nothing is.
     ///
-    /// Fails out of memory alone; then nothing is kept any longer.
-    pub(crate) fn joined(&mut self, alloc: Global) -> Result<Option<Bytes>>
-        ensures ok { IfOk result (λ bytes. bytes ≡ retry_buffer self.old) }
+    /// Fails out of memory alone.
+    pub(crate) fn retry_buffer(&self, alloc: Global) -> Result<Option<Bytes>>
+        ensures ok { IfOk result (λ bytes. bytes ≡ retry_buffer self.now) }
         ensures memory { IsOkUnless result Fail.OutOfMemory }
-        ensures same { OnOk result (self.new ≡ self.old) }
-        ensures lost { OnErr result (self.new ≡ Replay.Lost) }
     {
-        let Replay::Kept(pieces) = self else {
-            return Ok(None);
-        };
-        match join(alloc, pieces) {
-            Ok(bytes) => Ok(some_bytes(bytes)),
-            Err(why) => {
-                *self = Replay::Lost;
-                Err(why)
-            }
+        match self {
+            Replay::Kept(run) if run.bytes.is_empty() => Ok(None),
+            Replay::Kept(run) => Ok(Some(Bytes::copy_from_slice(alloc, run.bytes.as_slice())?)),
+            Replay::Truncated | Replay::Lost => Ok(None),
         }
     }
-}
-
-/// One more owner of that piece stands behind the others.
-fn push(pieces: &mut BytesQueue, piece: &Bytes) -> Result<()>
-    ensures ok { OnOk result (pieces.new ≡ pieces.old ++ piece.now) }
-    ensures memory { IsOkUnless result Fail.OutOfMemory }
-{
-    match pieces.push(piece.clone()?) {
-        Ok(()) => Ok(()),
-        Err(_) => Err(Fail::OutOfMemory),
-    }
-}
-
-/// The pieces as one run, in which they are kept from now on.
-fn join(alloc: Global, pieces: &mut BytesQueue) -> Result<Bytes>
-    ensures ok { IfOk result (λ bytes. bytes ≡ pieces.old) }
-    ensures same { OnOk result (pieces.new ≡ pieces.old) }
-    ensures memory { IsOkUnless result Fail.OutOfMemory }
-{
-    let len = pieces.len();
-    let Ok(bytes) = pieces.split_to(alloc, len) else {
-        return Err(Fail::OutOfMemory);
-    };
-    push(pieces, &bytes)?;
-    Ok(bytes)
-}
-
-/// Bytes, where there are some.
-fn some_bytes(bytes: Bytes) -> Option<Bytes>
-    ensures { result ≡ some_bytes bytes }
-{
-    if bytes.is_empty() { None } else { Some(bytes) }
 }

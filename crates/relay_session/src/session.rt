@@ -15,7 +15,7 @@ ghost use Rattle.relay_session.specs.Asked.{request_of, unread};
 ghost use Rattle.relay_session.specs.Session.{AnswersRead, AnswersTo, may_begin_again, lets_ask_again};
 ghost use Rattle.relay_session.specs.Replay.{most_kept, retry_buffer};
 ghost use Rattle.relay_session.specs.declared.replay.Replay.TheVariants as Replay;
-ghost use Rattle.relay_session.specs.Reading.{head_of, with_head, with_replay, replay_of, is_body_done, is_body_empty, is_kept, is_truncated, received, RequestSoFar, IsWhole, IsItem, ReadsOn, ReadsRest, ReadsLink, EndsBy};
+ghost use Rattle.relay_session.specs.Reading.{head_of, with_head, replay_of, is_body_done, is_body_empty, is_kept, is_truncated, received, RequestSoFar, IsWhole, IsItem, ReadsOn, ReadsRest, ReadsLink, EndsBy};
 ghost use Rattle.relay_session.specs.Summary.{without_body_fields, request_summary};
 ghost use Rattle.relay_session.specs.TaskWire.{refusal};
 ghost use Rattle.relay_session.specs.Generated.{answer_tasks, body_answer_tasks, AnswersText, IsFaultOrMemory};
@@ -272,17 +272,13 @@ impl HttpSession {
         self.reading.is_kept() && self.writing.is_as_begun()
     }
 
-    /// The bytes of the body that were given out so far, for another attempt to send them first;
-    /// they stay kept. None where there are none, or where they are kept no longer.
+    /// The bytes of the body that were given out so far, for another attempt to send them first.
+    /// None where there are none, or where they are kept no longer.
     ///
-    /// Fails out of memory alone; then they are kept no longer.
-    pub fn get_retry_buffer(&mut self, alloc: Global) -> Result<Option<Bytes>>
-        ensures ok { IfOk result (λ bytes. bytes ≡ retry_buffer (replay_of self.old.reading)) }
+    /// Fails out of memory alone.
+    pub fn get_retry_buffer(&self, alloc: Global) -> Result<Option<Bytes>>
+        ensures ok { IfOk result (λ bytes. bytes ≡ retry_buffer (replay_of self.now.reading)) }
         ensures memory { IsOkUnless result Fail.OutOfMemory }
-        ensures same { OnOk result (self.new ≡ self.old) }
-        ensures lost { OnErr result
-            (self.new.reading ≡ with_replay self.old.reading Replay.Lost) }
-        ensures response { self.new.writing ≡ self.old.writing }
     {
         self.reading.get_retry_buffer(alloc)
     }

@@ -35,8 +35,7 @@ returns-clause-begins g c =
     let value = c.is_body_done-body_done.ensures.value in
     let done = ap (λ (x : HttpSession). is_body_done x.reading) c.new-client.ensures.session
     ∙ sym value in
-    let session = c.first_piece.new.session in
-    let same : session ≡ c.args.session = c.in-Ok.ensures.same in
+    let session = c.args.session in
     let put = put_again session in
     λ s came link ahead reused own none behind out used.
     let Begun : Exchange ClientSide (Filtered (PeerSide g.row.L.Denot)) → Type 0 = λ x.
@@ -58,8 +57,7 @@ returns-clause-begins g c =
     (state_over (peer.state_of up.inner) up.upgraded up.stopped up.told)
     (begun_past came put) none_passed
     (record {
-      down_holds = c.new-client.ensures.begins s came link ahead
-          (subst (λ (x : HttpSession). BeginsBehind s came link ahead x) (sym same) behind);
+      down_holds = c.new-client.ensures.begins s came link ahead behind;
       up_holds = subst
           (λ (u : Filtered (PeerSide g.row.L.Denot)). UpHolds state start_at u s none_passed)
           (sym c.new-upstream.ensures)
@@ -78,7 +76,7 @@ returns-clause-begins g c =
             closes = refl;
             quiet = λ still. still;
           });
-      first_put = sym (c.in-Ok.ensures.ok ∙ ap put_again (sym same));
+      first_put = sym c.in-Ok.ensures.ok;
       end_put = end_is (retry_buffer (replay_of session.reading)) (is_body_done session.reading)
           ∙ sym value;
       none_batched = refl;
