@@ -59,7 +59,7 @@ module _ (allows : Standing → LogEntry → Type 0) (start : Station) (first : 
       (logged_to from) old before
 
   -- a call of that hook takes it on
-  closes_more : (which : Hook) (from : Stage) (at : Station) (leads : Stage → Item → Type 0)
+  closes_more : (which : Hook) (from : Stage) (at : Station) (leads : Stage → LogEntry → Type 0)
       (is_logging : Bool) (told : Option Error)
       → same_hook hook.Logging which ≡ is_logging
       → ((a b c : Writing) (v w : List HttpTask) → queues_for (told_to from) a b v
@@ -90,7 +90,7 @@ module _ (allows : Standing → LogEntry → Type 0) (start : Station) (first : 
 
   -- what is known of the stage at which that hook comes next is known of the stage that it is
   at_stage : (goes_back : Bool) (which known_hook : Hook) (from known : Stage) (at : Station)
-      (leads : Stage → Item → Type 0) (result : Type 0) → from ≡ known
+      (leads : Stage → LogEntry → Type 0) (result : Type 0) → from ≡ known
       → next_hook known goes_back ≡ Some known_hook → next_hook from goes_back ≡ Some which
       → HasClosedAt from → Asks allows which start from at leads old before new behind
       → (HasClosedAt known → Asks allows known_hook start known at leads old before new behind
@@ -149,8 +149,12 @@ module _ (allows : Standing → LogEntry → Type 0) (start : Station) (first : 
       (CameTo (stage.Logged why)) _ asks.leads.0 refl next closed asks
       (closes_more hook.Logging (stage.Ending why) station.logged (CameTo (stage.Logged why)) true
       (error_of why) refl (queues_before_nothing (queues_for (error_of why))))
-  closes_call goes_back which from (place.Ended (end.Gone why)) next closed asks =
-      absurd asks.leads
+  closes_call {K = K} goes_back which from (place.Ended (end.Gone why)) next closed asks =
+      at_stage goes_back which hook.Logging from (stage.Ending why) station.logged
+      (EndedBehind {K = K} (end.Gone why)) _ asks.leads.0 refl next closed asks
+      (closes_more hook.Logging (stage.Ending why) station.logged
+      (EndedBehind {K = K} (end.Gone why)) true
+      (error_of why) refl (queues_before_nothing (queues_for (error_of why))))
   closes_call {K = K} goes_back which from (place.Ended (end.Kept why kept)) next closed asks =
       let is_next : next_hook (stage.Logged why) goes_back ≡ Some hook.PersistConnectionContext =
       persists goes_back which why

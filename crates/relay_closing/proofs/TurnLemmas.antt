@@ -1,5 +1,5 @@
 -- Where each call leads.
-use Rattle.std.proofs.Common.{◌≡◌, ℕ, true, false, None, Ok, inl, inr, is_some, Option, List, refl, sym, true≢false}
+use Rattle.std.proofs.Common.{◌≡◌, ℕ, Bool, true, false, None, Ok, inl, inr, is_some, Option, List, refl, sym, ap, ◌∙◌, true≢false}
 use Rattle.relay_tasks.specs.declared.error.Error.{Error}
 use Rattle.relay_tasks.specs.declared.hook.Hook.TheVariants as hook
 use Rattle.relay_tasks.specs.declared.log.Item.{Item}
@@ -20,7 +20,7 @@ use Rattle.relay_phases.specs.Order.{Station}
 use Rattle.relay_phases.specs.Order.{Station as station}
 use Rattle.relay_phases.proofs.TurnLemmas.{Calls-app, Kept, Kept-leaves, Kept-queues, Leads, entered, leaves_turn, looks_turn, queued_answers_to, queued_noted, queued_nothing, queued_open}
 use Rattle.relay_closing.specs.Closes.{Asks, TurnsTo}
-use Rattle.relay_closing.specs.Place.{CameTo, begins_at, error_of, may_fail, may_finish, station_of}
+use Rattle.relay_closing.specs.Place.{CameTo, begins_at, error_of, logged, may_fail, may_finish, station_of}
 use Rattle.relay_closing.specs.Queued.{QueuesOnce}
 use Rattle.relay_closing.specs.declared.place.Cause.{Cause}
 use Rattle.relay_closing.specs.declared.place.Cause.TheVariants as cause
@@ -132,11 +132,12 @@ module _ (app : Standing → LogEntry → Type 0) (modules : ModuleCall → Type
 
   -- the request is over, and its end was told
   pub logs_turn : (K : Type 0) (why : Cause) → begins_at start (stage.Ending why) ≡ true
+      → (stays : Bool) → new.keepalive ≡ stays
       → Calls app hook.Logging (failure (error_of why)) old before new mark (only item.Nothing)
       → TurnsTo (IsAllowed app modules) {K = K} hook.Logging start (stage.Ending why) old before
-      new mark (place.At (stage.Logged why))
+      new mark (logged why stays)
   unfolding leaves_turn
-  logs_turn K why may call =
+  logs_turn K why may true is call =
       record {
         turn =
             leaves_turn app modules hook.Logging refl (failure (error_of why)) old before new mark
@@ -144,7 +145,17 @@ module _ (app : Standing → LogEntry → Type 0) (modules : ModuleCall → Type
             (λ r h. h)
             (logs_at start why may (failure (error_of why)) (moment (cleared old) before)) call;
         input = refl;
-        leads = (refl, refl);
+        leads = (refl, refl, sym (ap (λ (s : Seen). s.keepalive) call.rest) ∙ is);
+      }
+  logs_turn K why may false is call =
+      record {
+        turn =
+            leaves_turn app modules hook.Logging refl (failure (error_of why)) old before new mark
+            Leaves (only item.Nothing) (station_of start (stage.Ending why)) station.logged
+            (λ r h. h)
+            (logs_at start why may (failure (error_of why)) (moment (cleared old) before)) call;
+        input = refl;
+        leads = (refl, refl, sym (ap (λ (s : Seen). s.keepalive) call.rest) ∙ is);
       }
 
 -- ---- hooks that only look

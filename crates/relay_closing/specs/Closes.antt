@@ -33,13 +33,13 @@ logged_to (stage.Logged why) = failure (error_of why) ∷ []
 
 module _ (allows : Standing → LogEntry → Type 0) where
   -- at a stage that hook was called once, with what it is told there; it may come there and leads
-  -- to that station; its answer led so, and it queued what it may
+  -- to that station; the call led so, and it queued what it may
   pub record Asks (which : Hook) (start : Station) (from : Stage) (at : Station)
-      (came : Stage → Item → Type 0) (old : Seen) (before : ℕ) (new : Seen) (behind : ℕ)
+      (came : Stage → LogEntry → Type 0) (old : Seen) (before : ℕ) (new : Seen) (behind : ℕ)
       : Type 0 where
     pub turn : Turns allows which (station_of start from) at (queues_at from) old before new behind
     pub input : turn.e.input ≡ input_of from old
-    pub leads : came from turn.e.output
+    pub leads : came from turn.e
 
   -- a turn that calls a hook, by where it leads; out of memory no entry is new
   abbrev pub TurnsTo : {K : Type 0} → Hook → Station → Stage → Seen → ℕ → Seen → ℕ → Place K

@@ -5,6 +5,7 @@ use Rattle.relay_tasks.specs.declared.hook.Hook.{Hook}
 use Rattle.relay_tasks.specs.declared.hook.Hook.TheVariants as hook
 use Rattle.relay_tasks.specs.declared.log.Item.{Item}
 use Rattle.relay_tasks.specs.declared.log.Item.TheVariants as item
+use Rattle.relay_tasks.specs.declared.log.LogEntry.{LogEntry}
 use Rattle.relay_session.specs.Reading.{head_of}
 use Rattle.relay_modules.specs.declared.seen.Seen.{Seen}
 use Rattle.relay_hooks.specs.Call.{failure}
@@ -121,26 +122,34 @@ rested (stage.Logged why) = place.Ended (end.Gone why)
 
 -- ---- where its answer leads
 
--- the end came to that stage from the other, where the hook answered that
-abbrev pub CameTo : Stage → Stage → Item → Type 0
-CameTo (stage.Failing error) from answer = ⊥
-CameTo (stage.Told told) from answer =
+-- the end came to that stage from the other, where the call of the hook was that
+abbrev pub CameTo : Stage → Stage → LogEntry → Type 0
+CameTo (stage.Failing error) from e = ⊥
+CameTo (stage.Told told) from e =
     (from ≡ stage.Failing told.error)
-    × (answer ≡ item.Code told.answer.error_code told.answer.can_reuse_downstream)
-CameTo (stage.Reporting told) from answer =
-    (from ≡ stage.Told told) × (answer ≡ item.Answer false)
-CameTo (stage.Ending cause.Finished) from answer = ⊥
-CameTo (stage.Ending (cause.Hidden told)) from answer =
-    (from ≡ stage.Told told) × (answer ≡ item.Answer true)
-CameTo (stage.Ending (cause.Reported told summary)) from answer =
-    (from ≡ stage.Reporting told) × (answer ≡ item.Text summary)
-CameTo (stage.Logged why) from answer = (from ≡ stage.Ending why) × (answer ≡ item.Nothing)
+    × (e.output ≡ item.Code told.answer.error_code told.answer.can_reuse_downstream)
+CameTo (stage.Reporting told) from e =
+    (from ≡ stage.Told told) × (e.output ≡ item.Answer false)
+CameTo (stage.Ending cause.Finished) from e = ⊥
+CameTo (stage.Ending (cause.Hidden told)) from e =
+    (from ≡ stage.Told told) × (e.output ≡ item.Answer true)
+CameTo (stage.Ending (cause.Reported told summary)) from e =
+    (from ≡ stage.Reporting told) × (e.output ≡ item.Text summary)
+CameTo (stage.Logged why) from e =
+    (from ≡ stage.Ending why) × (e.output ≡ item.Nothing) × (e.keepalive ≡ true)
 
--- and so it ended; no call leads to the end of a client that does not go back
-abbrev pub EndedBehind : {K : Type 0} → End K → Stage → Item → Type 0
-EndedBehind (end.Gone why) from answer = ⊥
-EndedBehind (end.Kept why kept) from answer =
-    (from ≡ stage.Logged why) × (answer ≡ item.Kept (is_some kept))
+-- and so it ended: behind `logging`, where the client is not to be kept then; or behind the hook
+-- that gives what is kept
+abbrev pub EndedBehind : {K : Type 0} → End K → Stage → LogEntry → Type 0
+EndedBehind (end.Gone why) from e =
+    (from ≡ stage.Ending why) × (e.output ≡ item.Nothing) × (e.keepalive ≡ false)
+EndedBehind (end.Kept why kept) from e =
+    (from ≡ stage.Logged why) × (e.output ≡ item.Kept (is_some kept))
+
+-- where the end stands behind `logging`, by whether the client may be kept then
+abbrev pub logged : {K : Type 0} → Cause → Bool → Place K
+logged why true = place.At (stage.Logged why)
+logged why false = place.Ended (end.Gone why)
 
 -- ---- which hooks were called
 

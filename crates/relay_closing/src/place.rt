@@ -43,8 +43,8 @@ impl Cause {
 ///
 /// `Failing`: an error is final, and `fail_to_proxy` is called with it. `Told`: the client was
 /// answered for it, and `suppress_error_log` is. `Reporting`: it is to be written, and
-/// `request_summary` is. `Ending`: `logging` is. `Logged`: that was, and where the client goes
-/// back `persist_connection_context` is.
+/// `request_summary` is. `Ending`: `logging` is. `Logged`: that was, and left the keepalive flag
+/// on; where the client goes back `persist_connection_context` is.
 #[derive(Drop)]
 pub enum Stage {
     Failing(Error),

@@ -1,12 +1,12 @@
 //! One turn of the hooks at the end of a request: the hook that comes next, called and entered.
-ghost use Rattle.std.specs.Prelude.{IsSome, IsTrue, Option};
+ghost use Rattle.std.specs.Prelude.{◌≡◌, IsSome, IsTrue, Option};
 ghost use Rattle.relay_session.specs.Reading.{head_of};
 ghost use Rattle.relay_modules.specs.Module.{AllowsMade};
 ghost use Rattle.relay_modules.specs.declared.seen.Seen.{Seen};
 ghost use Rattle.relay_calls.specs.Log.{IsAllowed};
 ghost use Rattle.relay_phases.specs.Order.{Station};
 ghost use Rattle.relay_closing.specs.Closes.{ClosesSoFar, TurnsOn};
-ghost use Rattle.relay_closing.specs.Place.{begins_at, may_begin, may_go_on};
+ghost use Rattle.relay_closing.specs.Place.{begins_at, logged, may_begin, may_go_on};
 
 use crate::place::{Cause, End, Failure, Place, Stage};
 use relay_hooks::{ProxyHttp, Session};
@@ -18,8 +18,9 @@ use relay_phases::{
 /// Calls the hook that comes next, and answers where the end of the request stands then.
 ///
 /// `goes_back` says that the client's connection may serve another request: behind `logging`
-/// `persist_connection_context` is called where it does, and nothing where it does not. Once the
-/// request has ended nothing is called. The context is that of the request, and `app` the
+/// `persist_connection_context` is called where it does, and nothing where it does not. Where the
+/// session's keepalive flag is off behind `logging`, the client is gone, and nothing more is called
+/// (RFC 9112, section 9.6). Once the request has ended nothing is called. The context is that of the request, and `app` the
 /// application to which it belongs; each turn is given the same.
 pub fn take_turn<SV: ProxyHttp>(
     app: &SV,
@@ -82,7 +83,7 @@ fn call_next<SV: ProxyHttp>(
             Err(_) => Place::Lost,
         },
         Stage::Ending(cause) => match call_logging(app, session, ctx, cause.error()) {
-            Ok(()) => Place::At(Stage::Logged(cause)),
+            Ok(()) => logged(cause, session.seen.keepalive),
             Err(_) => Place::Lost,
         },
         Stage::Logged(cause) => {
@@ -94,5 +95,16 @@ fn call_next<SV: ProxyHttp>(
                 Err(_) => Place::Lost,
             }
         }
+    }
+}
+
+/// Where the end stands behind `logging`: the client may be kept, or it is gone.
+fn logged<K>(cause: Cause, stays: bool) -> Place<K>
+    ensures { result ≡ logged cause stays }
+{
+    if stays {
+        Place::At(Stage::Logged(cause))
+    } else {
+        Place::Ended(End::Gone(cause))
     }
 }

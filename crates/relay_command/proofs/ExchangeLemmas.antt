@@ -266,6 +266,8 @@ back_given : (log : List LogEntry) (came now : Outcome) → Gives log came now
     → outcome_reuse now ≡ true → outcome_reuse came ≡ true
 back_given log came now (Gives.same is heard) back =
     ap (λ (o : Outcome). outcome_reuse o) (sym is) ∙ back
+back_given log came now (Gives.closes error was is told off) back =
+    absurd (true≢false (sym back ∙ ap (λ (o : Outcome). outcome_reuse o) is))
 back_given log came now (Gives.cut error reuse was (inl limit)) back =
     absurd (true≢false (sym back ∙ ap (λ (o : Outcome). outcome_reuse o) limit))
 back_given log came now (Gives.cut error reuse was (inr lost)) back =

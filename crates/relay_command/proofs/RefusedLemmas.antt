@@ -46,6 +46,8 @@ none_of s p w (r ∷ q ∷ rest) records ends = absurd ends
 none_given : (log : List LogEntry) (came now : Outcome) → Gives log came now
     → now ≡ ended.NoRequest → came ≡ ended.NoRequest
 none_given log came now (Gives.same is heard) none = sym is ∙ none
+none_given log came now (Gives.closes error was is told off) none =
+    absurd (let clash : ended.Served error false ≡ ended.NoRequest = sym is ∙ none in cc)
 none_given log came now (Gives.cut error reuse was (inl limit)) none =
     absurd (let clash : ended.TurnLimit ≡ ended.NoRequest = sym limit ∙ none in cc)
 none_given log came now (Gives.cut error reuse was (inr lost)) none =

@@ -4,7 +4,7 @@
 --   neutral_agrees     the head that is sent agrees with the client's, which no call changed
 --   neutral_refuses    it is not refused
 --   whole              a valid one is served, or unfinished
-use Rattle.std.proofs.Common.{◌≡◌, ◌⊎◌, Bool, false, List, [], ◌∷◌, ◌++◌, Option, None, Some, ℕ, refl, sym, ◌∙◌, subst, inl}
+use Rattle.std.proofs.Common.{◌≡◌, ◌⊎◌, Bool, true, false, List, [], ◌∷◌, ◌++◌, Option, None, Some, ℕ, refl, sym, ap, ◌∙◌, subst, inl, inr}
 use Rattle.std.specs.Prelude.{All, Ok, Err}
 use Rattle.std.proofs.lemmas.List.Elements.{All-append, All-cons, All-nil}
 use Rattle.http.specs.declared.version.TheConstants.Version.{HTTP_11}
@@ -30,7 +30,7 @@ use Rattle.relay_proxy.specs.Exact.{IsUnfinished}
 use Rattle.relay_proxy.specs.Legs.{behind}
 use Rattle.relay_proxy.specs.Passed.{Start, World}
 use Rattle.relay_proxy.specs.declared.outcome.Outcome.{Outcome}
-use Rattle.relay_proxy.specs.declared.outcome.Outcome.TheVariants.{Served}
+use Rattle.relay_proxy.specs.declared.outcome.Outcome.TheVariants.{OutOfMemory, Served, TurnLimit}
 use Rattle.relay_proxy.specs.Sent.{Filters, RefusesToSend, Sends, SettlesFramed, asked_in, client_of}
 use Rattle.relay_proxy.proofs.SentLemmas.{sends_agrees}
 use Rattle.relay_neutral.specs.Neutral.{CanBeSent, IsNeutral, NeutralIsWhole}
@@ -120,6 +120,11 @@ neutral_refuses called head keep e (RefusesToSend.unsettled filtered f settles k
 
 -- ---- how it ends
 
+-- outcomes that are one have one error
+same_error : (x y : Option Error) (a b : Bool)
+    → ◌≡◌ {A = Outcome} (Served x a) (Served y b) → x ≡ y
+same_error x y a b same = cc
+
 -- what is given of a request that came to be served without an error, or unfinished: that, or the
 -- hooks of its end were cut off
 given_whole : (log : List LogEntry) (came now : Outcome) → Gives log came now
@@ -128,6 +133,13 @@ given_whole : (log : List LogEntry) (came now : Outcome) → Gives log came now
 given_whole log came now (Gives.same is heard) ends =
     subst (λ (o : Outcome). IsUnfinished o ⊎ ((reuse : Bool) × (o ≡ Served None reuse)))
     (sym is) ends
+given_whole log came now (Gives.closes error was is told off) (inl (inl limit)) =
+    absurd (let clash : Served error true ≡ TurnLimit = sym was ∙ limit in cc)
+given_whole log came now (Gives.closes error was is told off) (inl (inr lost)) =
+    absurd (let clash : Served error true ≡ OutOfMemory = sym was ∙ lost in cc)
+given_whole log came now (Gives.closes error was is told off) (inr served) =
+    inr (false, is ∙ ap (λ (e : Option Error). Served e false)
+    (same_error error None true served.0 (sym was ∙ served.1)))
 given_whole log came now (Gives.cut error reuse is out) ends = inl out
 
 module _ {L : Type 0} (state : L → LinkState) (start_at : L → LinkStart) where

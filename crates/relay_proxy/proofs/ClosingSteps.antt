@@ -111,7 +111,7 @@ answered_by_turn allows error from old before new behind
 answered_by_turn allows error from old before new behind (place.At (stage.Logged why)) kept asks =
     let was : stage.Failing error ≡ stage.Ending why = asks.leads.0 in cc
 answered_by_turn allows error from old before new behind (place.Ended (end.Gone why)) kept asks =
-    absurd asks.leads
+    let was : stage.Failing error ≡ stage.Ending why = asks.leads.0 in cc
 answered_by_turn allows error from old before new behind (place.Ended (end.Kept why value)) kept
     asks = let was : stage.Failing error ≡ stage.Logged why = asks.leads.0 in cc
 answered_by_turn allows error from old before new behind place.Lost kept asks =
@@ -163,7 +163,7 @@ told_by_turn allows error from old before new behind
 told_by_turn allows error from old before new behind (place.At (stage.Logged why)) kept asks =
     let was : stage.Failing error ≡ stage.Ending why = asks.leads.0 in cc
 told_by_turn allows error from old before new behind (place.Ended (end.Gone why)) kept asks =
-    absurd asks.leads
+    let was : stage.Failing error ≡ stage.Ending why = asks.leads.0 in cc
 told_by_turn allows error from old before new behind (place.Ended (end.Kept why value)) kept asks =
     let was : stage.Failing error ≡ stage.Logged why = asks.leads.0 in cc
 told_by_turn allows error from old before new behind place.Lost kept asks =

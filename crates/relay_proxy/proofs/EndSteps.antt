@@ -10,7 +10,7 @@
 --   finishes_came, undone_limit, done_gives
 --                          what a request came to that is brought to its end
 use Rattle.std.proofs.Common.{◌≡◌, ◌≢◌, ℕ, ◌+◌, ◌⊎◌, Bool, true, false, ◌||◌, List, [], ◌∷◌, ◌++◌, append-nil, arith, length, Option, None, Some, is_some, not, refl, sym, ap, subst, ◌∙◌, true≢false, inl, inr}
-use Rattle.std.specs.Prelude.{IsSome, IsTrue, if◌then◌else◌}
+use Rattle.std.specs.Prelude.{◌&&◌, IsSome, IsTrue, if◌then◌else◌}
 use Rattle.std.specs.List.{list_any}
 use Rattle.std.proofs.lemmas.List.Folds.{list_any-append}
 use Rattle.relay_links.specs.Connector.{Offer}
@@ -50,7 +50,7 @@ use Rattle.relay_attempt.specs.Passed.{Passed}
 use Rattle.relay_proxy.specs.Ahead.{IsOwedAhead}
 use Rattle.relay_proxy.specs.Bound.{IsWithin, OwnGave, PhaseCounts, most_sides}
 use Rattle.relay_proxy.specs.Calls.{CallsLast, CallsSoFar, EndsBy, HasClosed, HasCome, IsLogged, IsUnended, KeepsValue, StandsAt, StandsBy, given_at, has_last, kept_at, last_from, last_of, log_of, reuse_of}
-use Rattle.relay_proxy.specs.ClosingHooks.{Gives, calls_next, error_to, given, has_begun, kept_in}
+use Rattle.relay_proxy.specs.ClosingHooks.{Gives, calls_next, error_to, given, has_begun, is_gone, kept_in, stays_alive}
 use Rattle.relay_proxy.specs.Endings.{AttemptsFailed, EndsAhead, EndsLinked, EndsUnlinked, EndsWith, IsGiven, IsGivenAhead, IsInOrder, MadeAhead}
 use Rattle.relay_proxy.specs.Passed.{Start, TellsClient, World, answer_in, before_end, begins_end, called_to, closed_to, opened_to}
 use Rattle.relay_proxy.specs.Phases.{PhaseHolds, RunSoFar}
@@ -74,7 +74,7 @@ use Rattle.relay_proxy.specs.declared.outcome.Outcome.{Outcome}
 use Rattle.relay_proxy.specs.declared.outcome.Outcome.TheVariants.{NoRequest, Refused, Served, TurnLimit, OutOfMemory}
 use Rattle.relay_proxy.specs.declared.record.AttemptRecord.{AttemptRecord}
 use Rattle.relay_proxy.specs.declared.work.Work.{Work}
-use Rattle.relay_proxy.proofs.LastCalls.{begins_behind, logged_append}
+use Rattle.relay_proxy.proofs.LastCalls.{alive_less, alive_more, begins_behind, logged_append}
 use Rattle.relay_proxy.proofs.StepLemmas.{more-nil}
 use Rattle.relay_proxy.proofs.TakenLemmas.{takes_nothing}
 use Rattle.relay_proxy.proofs.TreatLemmas.{ends_with, still_open}
@@ -611,7 +611,7 @@ module _ {C M K : Type 0} (allows : Standing → LogEntry → Type 0) (mark_of :
     (old new : Calls M K C) (held left : C) (error : Option Error) (from : Stage)
     (s : StandsAt allows mark_of old held old.session.seen.downstream error from) where
   -- the log in order, with one call more
-  one_logged : (which : Hook) (at : Station) (leads : Stage → Item → Type 0)
+  one_logged : (which : Hook) (at : Station) (leads : Stage → LogEntry → Type 0)
       → Asks allows which s.start from at leads old.session.seen (mark_of held) new.session.seen
       (mark_of left)
       → Walk allows s.from (log_of new)
@@ -630,16 +630,17 @@ module _ {C M K : Type 0} (allows : Standing → LogEntry → Type 0) (mark_of :
   )
 
   -- the end stands at the next stage
-  one_stands : (which : Hook) (to : Stage) (leads : Stage → Item → Type 0)
+  one_stands : (which : Hook) (to : Stage) (leads : Stage → LogEntry → Type 0)
       (asks : Asks allows which s.start from (closing_at s.start to) leads old.session.seen
       (mark_of held) new.session.seen (mark_of left))
       → IsTrue (begins_at s.start to)
       → logged_in (log_of old ++ asks.turn.e ∷ []) ≡ logged_to to
       → list_any (λ (x : LogEntry). begins_end x.hook) (log_of old ++ asks.turn.e ∷ [])
       ≡ has_begun to
+      → (same_hook hook.Logging asks.turn.e.hook && not asks.turn.e.keepalive) ≡ false
       → error_to to ≡ error_to from
       → StandsAt allows mark_of new left new.session.seen.downstream error to
-  one_stands which to leads asks begins logged begun same =
+  one_stands which to leads asks begins logged begun quiet same =
       let on = one_logged which (closing_at s.start to) leads asks in
       record {
         from = s.from;
@@ -648,6 +649,8 @@ module _ {C M K : Type 0} (allows : Standing → LogEntry → Type 0) (mark_of :
         begins = begins;
         order = on.1;
         logged = ap logged_in asks.turn.calls.log ∙ logged;
+        alive = ap stays_alive asks.turn.calls.log
+            ∙ alive_more (log_of old) asks.turn.e quiet s.alive;
         begun = ap (λ (l : List LogEntry). list_any (λ (x : LogEntry). begins_end x.hook) l)
             asks.turn.calls.log ∙ begun;
         error_is = same ∙ s.error_is;
@@ -669,6 +672,7 @@ module _ {C M K : Type 0} (allows : Standing → LogEntry → Type 0) (mark_of :
       (logged_append (log_of old) asks.turn.e (ap (λ (h : Hook). same_hook hook.Logging h) hook_is)
       ∙ s.logged ∙ ap logged_to is)
       (begins_behind (log_of old) asks.turn.e (ap (λ (h : Hook). begins_end h) hook_is))
+      (ap (λ (h : Hook). same_hook hook.Logging h && not asks.turn.e.keepalive) hook_is)
       (ap error_to (sym is))
   to_stage which goes_back (stage.Reporting told) next asks =
       let is : from ≡ stage.Told told = asks.leads.0 in
@@ -679,6 +683,7 @@ module _ {C M K : Type 0} (allows : Standing → LogEntry → Type 0) (mark_of :
       (logged_append (log_of old) asks.turn.e (ap (λ (h : Hook). same_hook hook.Logging h) hook_is)
       ∙ s.logged ∙ ap logged_to is)
       (begun_more (log_of old) asks.turn.e (s.begun ∙ ap has_begun is))
+      (ap (λ (h : Hook). same_hook hook.Logging h && not asks.turn.e.keepalive) hook_is)
       (ap error_to (sym is))
   to_stage which goes_back (stage.Ending cause.Finished) next asks = absurd asks.leads
   to_stage which goes_back (stage.Ending (cause.Hidden told)) next asks =
@@ -691,6 +696,7 @@ module _ {C M K : Type 0} (allows : Standing → LogEntry → Type 0) (mark_of :
       (logged_append (log_of old) asks.turn.e (ap (λ (h : Hook). same_hook hook.Logging h) hook_is)
       ∙ s.logged ∙ ap logged_to is)
       (begun_more (log_of old) asks.turn.e (s.begun ∙ ap has_begun is))
+      (ap (λ (h : Hook). same_hook hook.Logging h && not asks.turn.e.keepalive) hook_is)
       (ap error_to (sym is))
   to_stage which goes_back (stage.Ending (cause.Reported told summary)) next asks =
       let is : from ≡ stage.Reporting told = asks.leads.0 in
@@ -702,6 +708,7 @@ module _ {C M K : Type 0} (allows : Standing → LogEntry → Type 0) (mark_of :
       (logged_append (log_of old) asks.turn.e (ap (λ (h : Hook). same_hook hook.Logging h) hook_is)
       ∙ s.logged ∙ ap logged_to is)
       (begun_more (log_of old) asks.turn.e (s.begun ∙ ap has_begun is))
+      (ap (λ (h : Hook). same_hook hook.Logging h && not asks.turn.e.keepalive) hook_is)
       (ap error_to (sym is))
   to_stage which goes_back (stage.Logged why) next asks =
       let is : from ≡ stage.Ending why = asks.leads.0 in
@@ -714,6 +721,8 @@ module _ {C M K : Type 0} (allows : Standing → LogEntry → Type 0) (mark_of :
       ∙ ap (λ (i : Item). i ∷ [])
       (asks.input ∙ ap (λ (k : Stage). input_of k old.session.seen) is))
       (begins_behind (log_of old) asks.turn.e (ap (λ (h : Hook). begins_end h) hook_is))
+      (ap (λ (h : Hook). same_hook hook.Logging h && not asks.turn.e.keepalive) hook_is
+      ∙ ap (λ (b : Bool). not b) asks.leads.2)
       (ap error_to (sym is))
 
   -- behind the last of them
@@ -722,7 +731,30 @@ module _ {C M K : Type 0} (allows : Standing → LogEntry → Type 0) (mark_of :
       → Asks allows which s.start from (end_station how) (EndedBehind how) old.session.seen
       (mark_of held) new.session.seen (mark_of left)
       → HasClosed allows mark_of new error how
-  to_end which goes_back (end.Gone why) next asks = absurd asks.leads
+  to_end which goes_back (end.Gone why) next asks =
+      let is : from ≡ stage.Ending why = asks.leads.0 in
+      let hook_is : asks.turn.e.hook ≡ hook.Logging =
+      next_is which goes_back from (stage.Ending why) hook.Logging is next refl
+      asks.turn.e asks.turn.hook in
+      let on = one_logged which station.logged (EndedBehind {K = K} (end.Gone why)) asks in
+      record {
+        at = station.logged;
+        in_order = record { from = s.from; to = _; walks = on.0; order = on.1 };
+        logged = ap logged_in asks.turn.calls.log
+            ∙ logged_one (log_of old) asks.turn.e
+            (ap (λ (h : Hook). same_hook hook.Logging h) hook_is) (s.logged ∙ ap logged_to is)
+            ∙ ap (λ (i : Item). i ∷ [])
+            (asks.input ∙ ap (λ (k : Stage). input_of k old.session.seen) is)
+            ∙ ap (λ (o : Option Error). failure o ∷ []) (ap error_to (sym is) ∙ s.error_is);
+        begun = ap (λ (l : List LogEntry). list_any (λ (x : LogEntry). begins_end x.hook) l)
+            asks.turn.calls.log
+            ∙ begins_behind (log_of old) asks.turn.e (ap (λ (h : Hook). begins_end h) hook_is);
+        keeps = λ some. absurd (true≢false (sym some));
+        alive = ap stays_alive asks.turn.calls.log
+            ∙ alive_less (log_of old) asks.turn.e
+            (ap (λ (h : Hook). same_hook hook.Logging h && not asks.turn.e.keepalive) hook_is
+            ∙ ap (λ (b : Bool). not b) asks.leads.2);
+      }
   to_end which goes_back (end.Kept why kept) next asks =
       let is : from ≡ stage.Logged why = asks.leads.0 in
       let hook_is : asks.turn.e.hook ≡ hook.PersistConnectionContext =
@@ -747,6 +779,10 @@ module _ {C M K : Type 0} (allows : Standing → LogEntry → Type 0) (mark_of :
           asks = hook_is;
           keeps = asks.leads.1 ∙ ap (λ (b : Bool). item.Kept b) some;
         };
+        alive = ap stays_alive asks.turn.calls.log
+            ∙ alive_more (log_of old) asks.turn.e
+            (ap (λ (h : Hook). same_hook hook.Logging h && not asks.turn.e.keepalive) hook_is)
+            s.alive;
       }
 
   -- wherever the call leads
@@ -916,8 +952,16 @@ module _ {C M K : Type 0} (allows : Standing → LogEntry → Type 0) (mark_of :
       Gives.cut error true refl (inl refl)
   stands_give calls held client error false (closing.At (stage.Logged why)) s =
       Gives.same refl
-      (inl (s.logged ∙ ap (λ (o : Option Error). failure o ∷ []) s.error_is))
-  stands_give calls held client error reuse (closing.Ended how) s = Gives.same refl (inl s.logged)
+      (inl (s.logged ∙ ap (λ (o : Option Error). failure o ∷ []) s.error_is,
+      λ back. absurd (true≢false (sym back))))
+  stands_give calls held client error true (closing.Ended (end.Gone why)) s =
+      Gives.closes error refl refl s.logged s.alive
+  stands_give calls held client error false (closing.Ended (end.Gone why)) s =
+      Gives.same refl (inl (s.logged, λ back. absurd (true≢false (sym back))))
+  stands_give calls held client error true (closing.Ended (end.Kept why kept)) s =
+      Gives.same refl (inl (s.logged, λ back. s.alive))
+  stands_give calls held client error false (closing.Ended (end.Kept why kept)) s =
+      Gives.same refl (inl (s.logged, λ back. s.alive))
   stands_give calls held client error reuse closing.Lost s =
       Gives.cut error reuse refl (inr refl)
 
@@ -1196,9 +1240,12 @@ none_cut (at.Treated treated) error reuse none = λ limit. cc
 none_cut (at.Closing held there) error reuse none = λ limit.
     by (is_lost there)
     (subst (λ (b : Bool). (if b then TurnLimit else
-    (if is_lost there then OutOfMemory else Served error reuse)) ≡ TurnLimit) none limit)
+    (if is_lost there then OutOfMemory else Served error (reuse && not (is_gone there))))
+    ≡ TurnLimit) none limit)
   where
-    by : (b : Bool) → (if b then OutOfMemory else Served error reuse) ≡ TurnLimit → ⊥
+    by : (b : Bool)
+        → (if b then OutOfMemory else Served error (reuse && not (is_gone there))) ≡ TurnLimit
+        → ⊥
     by true limit = cc
     by false limit = cc
 

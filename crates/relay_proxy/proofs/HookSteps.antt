@@ -57,7 +57,7 @@ use Rattle.relay_proxy.specs.declared.calls.Opened.TheVariants as led
 use Rattle.relay_proxy.specs.declared.record.AttemptRecord.{AttemptRecord}
 use Rattle.relay_proxy.specs.declared.work.Work.{Work}
 use Rattle.relay_proxy.proofs.CallLemmas.{logged_more, logged_same, none_called, one_called, order_more, walks_more}
-use Rattle.relay_proxy.proofs.LastCalls.{unended_unlogged}
+use Rattle.relay_proxy.proofs.LastCalls.{unended_unlogged, unlogged_alive}
 use Rattle.relay_proxy.proofs.NamedLemmas.{refusals_still}
 use Rattle.relay_proxy.proofs.OpenSteps.{AnswersAs, called_accepted, hooks_answer, stands_first, stays_connecting}
 use Rattle.relay_proxy.proofs.TreatLemmas.{unended_more, untreated_more}
@@ -574,6 +574,7 @@ module _ {C M K : Type 0} (allows : Standing → LogEntry → Type 0) (mark_of :
             begins = refl;
             order = order;
             logged = unended_unlogged (log_of new) unended;
+            alive = unlogged_alive (log_of new) (unended_unlogged (log_of new) unended);
             begun = unended;
             error_is = refl;
           },

@@ -8,8 +8,9 @@
 --   answered_owing              its error was answered
 --   finished_come               its exchange finished
 use Rattle.std.specs.Global.{Box}
-use Rattle.std.proofs.Common.{◌≡◌, ◌⊎◌, ℕ, Bool, true, false, ◌||◌, List, [], ◌∷◌, ◌++◌, length, arith, Option, None, Some, refl, sym, ap, subst, ◌∙◌, true≢false, inl, inr}
+use Rattle.std.proofs.Common.{◌≡◌, ◌⊎◌, ℕ, Bool, true, false, not, ◌&&◌, ◌||◌, List, [], ◌∷◌, ◌++◌, length, arith, Option, None, Some, refl, sym, ap, subst, ◌∙◌, true≢false, inl, inr}
 use Rattle.std.specs.Prelude.{unwrap_or}
+use Rattle.std.proofs.lemmas.List.Folds.{list_any-append}
 use Rattle.std.specs.List.{list_any}
 use Rattle.relay_tasks.specs.Head.{new_request}
 use Rattle.relay_tasks.specs.Hooks.{same_hook}
@@ -41,7 +42,7 @@ use Rattle.relay_closing.specs.declared.place.Place.TheVariants as closing
 use Rattle.relay_closing.specs.declared.place.Stage.{Stage}
 use Rattle.relay_closing.specs.declared.place.Stage.TheVariants as stage
 use Rattle.relay_proxy.specs.Calls.{CallsSoFar, BreaksAt, CameIn, CountsCalls, EndsBy, HasAnswered, HasClosed, HasCome, HasFinished, IsBreaking, IsLackingCalls, IsLogged, IsOpening, IsOwing, IsRelayingCalls, IsUnended, IsUnheard, KeepsCalls, KeepsValue, Owing, OwesIn, ShowsSame, StandsAt, StandsBy, closed_with, ended_with, log_of, seen_with, station_at, treated_at}
-use Rattle.relay_proxy.specs.ClosingHooks.{failed_with}
+use Rattle.relay_proxy.specs.ClosingHooks.{failed_with, stays_alive}
 use Rattle.relay_proxy.specs.Endings.{error_of}
 use Rattle.relay_proxy.specs.Owed.{outcome_failed, outcome_owed}
 use Rattle.relay_proxy.specs.Passed.{begins_end}
@@ -94,6 +95,52 @@ logged_append (x ∷ xs) e none = by (same_hook hook.Logging x.hook) refl (logge
         → logged_in (x ∷ (xs ++ e ∷ [])) ≡ logged_in (x ∷ xs)
     by true is rest = rw is (ap (λ (told : List Item). x.input ∷ told) rest)
     by false is rest = rw is rest
+
+-- where it was not called, it left no flag off
+pub unlogged_alive : (log : List LogEntry) → logged_in log ≡ [] → stays_alive log ≡ true
+unlogged_alive [] none = refl
+unlogged_alive (e ∷ es) none =
+    by (same_hook hook.Logging e.hook) refl none (unlogged_alive es)
+  where
+    by : (b : Bool) → same_hook hook.Logging e.hook ≡ b → logged_in (e ∷ es) ≡ []
+        → (logged_in es ≡ [] → stays_alive es ≡ true) → stays_alive (e ∷ es) ≡ true
+    by true is none rest = let some : e.input ∷ logged_in es ≡ [] = rw is at none in cc
+    by false is none rest = rw is (rest (rw is at none))
+
+-- the flags that it left behind one call more
+alive_append : (log : List LogEntry) (e : LogEntry)
+    → stays_alive (log ++ e ∷ [])
+    ≡ not (not (stays_alive log) || ((same_hook hook.Logging e.hook && not e.keepalive) || false))
+alive_append log e =
+    ap (λ (b : Bool). not b)
+    (list_any-append (λ (x : LogEntry). same_hook hook.Logging x.hook && not x.keepalive) log
+    (e ∷ []))
+    ∙ ap (λ (b : Bool). not (b || ((same_hook hook.Logging e.hook && not e.keepalive) || false)))
+    (sym (twice
+    (list_any (λ (x : LogEntry). same_hook hook.Logging x.hook && not x.keepalive) log)))
+  where
+    twice : (b : Bool) → not (not b) ≡ b
+    twice true = refl
+    twice false = refl
+
+-- one that leaves none off leaves them as they were
+pub alive_more : (log : List LogEntry) (e : LogEntry)
+    → (same_hook hook.Logging e.hook && not e.keepalive) ≡ false
+    → stays_alive log ≡ true → stays_alive (log ++ e ∷ []) ≡ true
+alive_more log e quiet alive = alive_append log e ∙ rw (alive, quiet) refl
+
+-- and one that leaves it off does that for all
+pub alive_less : (log : List LogEntry) (e : LogEntry)
+    → (same_hook hook.Logging e.hook && not e.keepalive) ≡ true
+    → stays_alive (log ++ e ∷ []) ≡ false
+alive_less log e off =
+    alive_append log e
+    ∙ ap (λ (b : Bool). not (not (stays_alive log) || (b || false))) off
+    ∙ none (not (stays_alive log))
+  where
+    none : (b : Bool) → not (b || true) ≡ false
+    none true = refl
+    none false = refl
 
 -- a call with which the end begins is one behind the others
 pub begins_behind : (log : List LogEntry) (e : LogEntry) → begins_end e.hook ≡ true
@@ -166,6 +213,7 @@ module _ {C M K : Type 0} (allows : Standing → LogEntry → Type 0) (mark_of :
         order = subst (λ (l : List LogEntry). Accepts station.accepted l
             (closing_at s.start here)) (sym log) s.order;
         logged = ap logged_in log ∙ s.logged;
+        alive = ap stays_alive log ∙ s.alive;
         begun = ap (λ (l : List LogEntry). list_any (λ (x : LogEntry). begins_end x.hook) l) log
             ∙ s.begun;
         error_is = s.error_is;
@@ -182,6 +230,7 @@ module _ {C M K : Type 0} (allows : Standing → LogEntry → Type 0) (mark_of :
     begun = ap (λ (l : List LogEntry). list_any (λ (x : LogEntry). begins_end x.hook) l) log
         ∙ s.begun;
     keeps = λ some. subst (λ (l : List LogEntry). KeepsValue l) (sym log) (s.keeps some);
+    alive = ap stays_alive log ∙ s.alive;
   }
 
   -- the end stands where it stood once its own error was told
@@ -293,6 +342,7 @@ module _ {C M K : Type 0} (allows : Standing → LogEntry → Type 0) (mark_of :
         order = subst (λ (l : List LogEntry). Accepts station.accepted l station.answered) (sym log)
             order;
         logged = on.logged;
+        alive = on.alive;
         begun = on.begun;
         error_is = refl;
       }
@@ -518,6 +568,11 @@ module _ {C M K : Type 0} (allows : Standing → LogEntry → Type 0) (mark_of :
             ∙ logged_append (log_of c) h.answers.turn.e
             (ap (λ (k : Hook). same_hook hook.Logging k) h.answers.turn.hook)
             ∙ unended_unlogged (log_of c) open_to;
+        alive = ap stays_alive log
+            ∙ alive_more (log_of c) h.answers.turn.e
+            (ap (λ (k : Hook). same_hook hook.Logging k && not h.answers.turn.e.keepalive)
+            h.answers.turn.hook)
+            (unlogged_alive (log_of c) (unended_unlogged (log_of c) open_to));
         begun = ap (λ (l : List LogEntry). list_any (λ (x : LogEntry). begins_end x.hook) l) log
             ∙ begins_behind (log_of c) h.answers.turn.e
             (ap (λ (k : Hook). begins_end k) h.answers.turn.hook);
@@ -578,6 +633,7 @@ module _ {C M K : Type 0} (allows : Standing → LogEntry → Type 0) (mark_of :
         begins = refl;
         order = r.order;
         logged = unended_unlogged (log_of old) r.unended;
+        alive = unlogged_alive (log_of old) (unended_unlogged (log_of old) r.unended);
         begun = r.unended;
         error_is = refl;
       }))

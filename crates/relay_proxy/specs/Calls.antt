@@ -1,6 +1,6 @@
 -- The calls of an application for one request: what its hooks are shown, their log, and where they
 -- stand (RFC 9110, section 3.7).
-use Rattle.std.specs.Prelude.{◌≡◌, ℕ, ◌+◌, ◌≤◌, ◌⊎◌, Bool, IsSome, IsTrue, true, false, is_some, length, List, [], ◌∷◌, ◌++◌, Option, Some, None, if◌then◌else◌}
+use Rattle.std.specs.Prelude.{◌≡◌, ℕ, ◌+◌, ◌≤◌, ◌⊎◌, Bool, IsSome, IsTrue, true, false, not, is_some, length, List, [], ◌∷◌, ◌++◌, Option, Some, None, if◌then◌else◌}
 use Rattle.relay_tasks.specs.Error.{may_retry}
 use Rattle.relay_tasks.specs.declared.Error.{Error}
 use Rattle.relay_tasks.specs.declared.hook.Hook.{Hook}
@@ -41,7 +41,7 @@ use Rattle.relay_closing.specs.declared.place.Place.TheVariants as closing
 use Rattle.relay_closing.specs.declared.place.Stage.{Stage}
 use Rattle.relay_closing.specs.declared.place.Stage.TheVariants as stage
 use Rattle.relay_proxy.specs.Ahead.{LastFails}
-use Rattle.relay_proxy.specs.ClosingHooks.{IsLeftUnheard, calls_next, error_to, failed_with, given, has_begun, kept_in}
+use Rattle.relay_proxy.specs.ClosingHooks.{IsLeftUnheard, calls_next, error_to, failed_with, given, has_begun, is_gone, kept_in, stays_alive}
 use Rattle.relay_proxy.specs.Named.{IsNamed}
 use Rattle.relay_proxy.specs.Passed.{begins_end}
 use Rattle.relay_proxy.specs.Sent.{IsTreated, IsUntreated}
@@ -438,6 +438,8 @@ module _ {C M K : Type 0} (allows : Standing → LogEntry → Type 0) (mark_of :
     pub begins : IsTrue (begins_at start at)
     pub order : Accepts accepted (log_of calls) (closing_at start at)
     pub logged : logged_in (log_of calls) ≡ logged_to at
+    -- it left the keepalive flag on, if it was called
+    pub alive : stays_alive (log_of calls) ≡ true
     pub begun : list_any (λ e. begins_end e.hook) (log_of calls) ≡ has_begun at
     pub error_is : error_to at ≡ error
 
@@ -448,6 +450,7 @@ module _ {C M K : Type 0} (allows : Standing → LogEntry → Type 0) (mark_of :
     pub logged : logged_in (log_of calls) ≡ failure error ∷ []
     pub begun : list_any (λ e. begins_end e.hook) (log_of calls) ≡ true
     pub keeps : IsSome (kept_in (closing.Ended how)) → KeepsValue (log_of calls)
+    pub alive : stays_alive (log_of calls) ≡ not (is_gone (closing.Ended how))
 
   -- the same by where they stand; out of memory the log is in order
   abbrev pub StandsBy : Calls M K C → C → HttpSession → Option Error → Last K → Type 0

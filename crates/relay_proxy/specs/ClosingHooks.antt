@@ -1,7 +1,10 @@
 -- The hooks at the end of a request: which of them was called, of which error, and the outcome that
 -- is given (RFC 9110, section 3.7).
-use Rattle.std.specs.Prelude.{◌≡◌, ◌⊎◌, Bool, false, true, is_some, List, [], ◌∷◌, Option, None, Some, if◌then◌else◌}
+use Rattle.std.specs.Prelude.{◌≡◌, ◌⊎◌, Bool, false, true, not, ◌&&◌, is_some, List, [], ◌∷◌, Option, None, Some, if◌then◌else◌}
+use Rattle.std.specs.List.{list_any}
+use Rattle.relay_tasks.specs.Hooks.{same_hook}
 use Rattle.relay_tasks.specs.declared.Error.{Error}
+use Rattle.relay_tasks.specs.declared.hook.Hook.TheVariants as hook
 use Rattle.relay_tasks.specs.declared.log.LogEntry.{LogEntry}
 use Rattle.relay_hooks.specs.Call.{failure}
 use Rattle.relay_phases.specs.Order.{Accepts, accepted, purging}
@@ -57,12 +60,20 @@ failed_with (place.At at) (Some e) = place.At (failed_to at e)
 failed_with (place.Ended how) (Some e) = place.Ended how
 failed_with place.Lost (Some e) = place.Lost
 
+-- the client is gone: it was not to be kept behind `logging`
+abbrev pub is_gone : {K : Type 0} → Place K → Bool
+is_gone (place.At at) = false
+is_gone (place.Ended (end.Gone why)) = true
+is_gone (place.Ended (end.Kept why kept)) = false
+is_gone place.Lost = false
+
 -- the outcome that is given of a request that was served so: turns or memory ran out in the hooks
--- of its end, or not
+-- of its end, or not; and a client that is gone does not go back
 abbrev pub given_served : {K : Type 0} → Place K → Option Error → Bool → Outcome
 given_served there error reuse =
     if calls_next there reuse then outcome.TurnLimit else
-    (if is_lost there then outcome.OutOfMemory else outcome.Served error reuse)
+    (if is_lost there then outcome.OutOfMemory
+    else outcome.Served error (reuse && not (is_gone there)))
 
 abbrev pub given : {K : Type 0} → Place K → Outcome → Outcome
 given there outcome.NoRequest = outcome.NoRequest
@@ -84,19 +95,30 @@ kept_in place.Lost = None
 abbrev pub IsLeftUnheard : List LogEntry → Type 0
 IsLeftUnheard log = Accepts accepted log purging
 
+-- the client may be kept, as the calls of `logging` left the session's keepalive flag
+abbrev pub stays_alive : List LogEntry → Bool
+stays_alive log =
+    not (list_any (λ (e : LogEntry). same_hook hook.Logging e.hook && not e.keepalive) log)
+
 -- the hooks of a request that came to that outcome were called: none of one whose head was not
--- accepted; else `logging` was told of the error that the outcome gives, and once
+-- accepted; else `logging` was told of the error that the outcome gives, and once; and the client
+-- goes back only where it left the keepalive flag on
 abbrev pub IsHeard : List LogEntry → Outcome → Type 0
 IsHeard log outcome.NoRequest = log ≡ []
 IsHeard log (outcome.Refused error) = log ≡ []
 IsHeard log (outcome.Served error reuse) =
-    (logged_in log ≡ failure error ∷ []) ⊎ IsLeftUnheard log
+    ((logged_in log ≡ failure error ∷ []) × (reuse ≡ true → stays_alive log ≡ true))
+    ⊎ IsLeftUnheard log
 IsHeard log outcome.TurnLimit = Unit {0}
 IsHeard log outcome.OutOfMemory = Unit {0}
 
 -- the outcome that is given of a request that came to that one, as far as its links go: it is the
--- same, and its hooks were called; or turns or memory ran out in the hooks of its end
+-- same, and its hooks were called; or its client would go back, and does not, since `logging` left
+-- the keepalive flag off; or turns or memory ran out in the hooks of its end
 pub data Gives (log : List LogEntry) (came now : Outcome) : Type 0 where
   same : now ≡ came → IsHeard log came → Gives log came now
+  closes : (error : Option Error) → came ≡ outcome.Served error true
+      → now ≡ outcome.Served error false → logged_in log ≡ failure error ∷ []
+      → stays_alive log ≡ false → Gives log came now
   cut : (error : Option Error) (reuse : Bool) → came ≡ outcome.Served error reuse
       → (now ≡ outcome.TurnLimit) ⊎ (now ≡ outcome.OutOfMemory) → Gives log came now

@@ -265,8 +265,8 @@ impl<M: HttpModule + Drop, K: Drop, C: Drop> Calls<M, K, C> {
         }
     }
 
-    /// The outcome that is given of a request that came to that: the same, or that turns or memory
-    /// ran out in the hooks of its end.
+    /// The outcome that is given of a request that came to that: the same, but for a client that
+    /// `logging` left not to be kept; or that turns or memory ran out in the hooks of its end.
     pub(crate) fn outcome(&self, came: Outcome) -> Outcome
         ensures { result ≡ given_at self.now.at came }
     {

@@ -1,7 +1,7 @@
 //! The hooks at the end of a request: which is called next, and the outcome that is given (RFC
 //! 9110, section 3.7).
 ghost use Rattle.std.specs.Prelude.{◌≡◌};
-ghost use Rattle.relay_proxy.specs.ClosingHooks.{calls_next, failed_with, given, kept_in};
+ghost use Rattle.relay_proxy.specs.ClosingHooks.{calls_next, failed_with, given, is_gone, kept_in};
 
 use crate::outcome::Outcome;
 use relay_closing::{Cause, End, Place, Stage};
@@ -31,8 +31,20 @@ pub(crate) fn failed_with<K>(place: Place<K>, error: Option<Error>) -> Place<K>
     }
 }
 
+/// Whether the client is gone: it was not to be kept behind `logging`.
+fn is_gone<K>(place: &Place<K>) -> bool
+    ensures { result ≡ is_gone place.now }
+{
+    match place {
+        Place::At(_) => false,
+        Place::Ended(End::Gone(_)) => true,
+        Place::Ended(End::Kept(_, _)) => false,
+        Place::Lost => false,
+    }
+}
+
 /// The outcome that is given of a request that came to that one, where its end stands there: turns
-/// or memory ran out in its hooks, or not.
+/// or memory ran out in its hooks, or not; and a client that is gone does not go back.
 pub(crate) fn given<K>(place: &Place<K>, came: Outcome) -> Outcome
     ensures { result ≡ given place.now came }
 {
@@ -43,7 +55,10 @@ pub(crate) fn given<K>(place: &Place<K>, came: Outcome) -> Outcome
             } else if place.is_lost() {
                 Outcome::OutOfMemory
             } else {
-                Outcome::Served { error, reuse }
+                Outcome::Served {
+                    error,
+                    reuse: reuse && !is_gone(place),
+                }
             }
         }
         Outcome::NoRequest => Outcome::NoRequest,

@@ -1,5 +1,5 @@
 -- Each call leads to its place.
-use Rattle.std.proofs.Common.{◌≡◌, Bool, true, false, Option, subst, arith}
+use Rattle.std.proofs.Common.{◌≡◌, Bool, true, false, Option, refl, subst, arith}
 use Rattle.relay_tasks.specs.declared.error.Error.{Error}
 use Rattle.relay_tasks.specs.declared.hook.Hook.TheVariants as hook
 use Rattle.relay_tasks.specs.declared.log.Item.TheVariants as item
@@ -89,10 +89,11 @@ returns-in-Ok-call_logging g c =
     let mark = g.SV.ProxyHttp.mark_of c.args.app.now c.call_logging.new.ctx in
     record {
       turns = λ made start begins.
-          rw c.in-Ending.is
+          rw (c.in-Ending.is, c.logged.ensures)
           (logs_turn app (AllowsMade g.SV.Modules.HttpModule.allows made) start old before new mark
           g.row.SV-Kept.Denot c.in-Ending.cause
           (subst (λ (s : Stage). begins_at start s ≡ true) c.in-Ending.is begins)
+          new.keepalive refl
           (subst
           (λ (e : Option Error). Calls app hook.Logging (failure e) old before new mark
           (only item.Nothing))
