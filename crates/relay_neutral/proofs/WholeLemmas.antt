@@ -138,8 +138,11 @@ given_whole log came now (Gives.closes error was is told off) (inl (inl limit)) 
 given_whole log came now (Gives.closes error was is told off) (inl (inr lost)) =
     absurd (let clash : Served error true ≡ OutOfMemory = sym was ∙ lost in cc)
 given_whole log came now (Gives.closes error was is told off) (inr served) =
-    inr (false, is ∙ ap (λ (e : Option Error). Served e false)
-    (same_error error None true served.0 (sym was ∙ served.1)))
+    inr (
+      false,
+      is ∙ ap (λ (e : Option Error). Served e false)
+          (same_error error None true served.0 (sym was ∙ served.1)),
+    )
 given_whole log came now (Gives.cut error reuse is out) ends = inl out
 
 module _ {L : Type 0} (state : L → LinkState) (start_at : L → LinkStart) where

@@ -952,8 +952,10 @@ module _ {C M K : Type 0} (allows : Standing → LogEntry → Type 0) (mark_of :
       Gives.cut error true refl (inl refl)
   stands_give calls held client error false (closing.At (stage.Logged why)) s =
       Gives.same refl
-      (inl (s.logged ∙ ap (λ (o : Option Error). failure o ∷ []) s.error_is,
-      λ back. absurd (true≢false (sym back))))
+      (inl (
+        s.logged ∙ ap (λ (o : Option Error). failure o ∷ []) s.error_is,
+        λ back. absurd (true≢false (sym back)),
+      ))
   stands_give calls held client error true (closing.Ended (end.Gone why)) s =
       Gives.closes error refl refl s.logged s.alive
   stands_give calls held client error false (closing.Ended (end.Gone why)) s =
