@@ -4,6 +4,7 @@ use relay_command::{Command, parse_words, run_command, run_script};
 use relay_links::{SliceSource, VecSink};
 use std::alloc::{AllocError, Global};
 
+mod again;
 mod duplex;
 mod exchange;
 mod keys;

@@ -6,6 +6,7 @@ mod calls;
 mod closings;
 mod default_app;
 mod errors;
+mod kept;
 mod modules;
 mod openings;
 mod orders;

@@ -11,7 +11,7 @@ use std::alloc::{AllocError, Global};
 use std::test::Fail;
 
 /// What a request came to: its outcome, what the client and the peer took, whether the peer's link
-/// was kept, and how many calls of both links failed.
+/// was kept, how many calls of both links failed, and what came of another attempt.
 #[derive(Drop)]
 pub(super) struct Ran {
     pub(super) outcome: Outcome,
@@ -20,6 +20,14 @@ pub(super) struct Ran {
     pub(super) kept: bool,
     pub(super) client_faults: u64,
     pub(super) peer_faults: u64,
+    pub(super) again: Option<Again>,
+}
+
+/// What the second peer took, and whether its link was kept.
+#[derive(Drop)]
+pub(super) struct Again {
+    pub(super) sent: Vec<u8>,
+    pub(super) kept: bool,
 }
 
 impl Ran {
@@ -29,28 +37,44 @@ impl Ran {
         Some((error.etype, error.esource))
     }
 
-    /// Whether it was relayed with these bytes and without an error, the client goes back, and the
-    /// link was kept.
-    pub(super) fn is_relayed(&self, written: &[u8], sent: &[u8]) -> bool {
+    /// Whether the client was written these bytes, without an error, and goes back.
+    fn is_served(&self, written: &[u8]) -> bool {
         let whole = Outcome::Served {
             error: None,
             reuse: true,
         };
-        self.outcome == whole
-            && self.kept
-            && self.written.as_slice() == written
-            && self.sent.as_slice() == sent
+        self.outcome == whole && self.written.as_slice() == written
+    }
+
+    /// Whether it was relayed with these bytes and without an error, the client goes back, and the
+    /// link was kept.
+    pub(super) fn is_relayed(&self, written: &[u8], sent: &[u8]) -> bool {
+        self.is_served(written) && self.kept && self.sent.as_slice() == sent
+    }
+
+    /// Whether it was relayed so over the second link, and a call of the first failed.
+    pub(super) fn is_relayed_again(&self, written: &[u8], sent: &[u8]) -> bool {
+        let Some(again) = &self.again else {
+            return false;
+        };
+        self.is_served(written)
+            && !self.kept
+            && self.peer_faults == 1
+            && again.kept
+            && again.sent.as_slice() == sent
     }
 }
 
-/// A connector to one peer, over that link.
-fn connector_to(alloc: Global, peer: ScriptLink) -> Result<ScriptConnector, Fail> {
+/// A connector to peers over these links, one behind the other.
+fn connector_to(alloc: Global, peers: Vec<ScriptLink>) -> Result<ScriptConnector, Fail> {
     let mut entries = Vec::new(alloc);
-    entries.push(PeerScript {
-        name: Bytes::from_static(b"a"),
-        link: peer,
-        connect: None,
-    })?;
+    for link in peers {
+        entries.push(PeerScript {
+            name: Bytes::from_static(b"a"),
+            link,
+            connect: None,
+        })?;
+    }
     let connector = ScriptConnector::new(alloc, entries)
         .ok()
         .ok_or("no memory")?;
@@ -64,9 +88,21 @@ pub(super) fn run(
     peer: ScriptLink,
     schedule: ListSchedule,
 ) -> Result<Ran, Fail> {
-    let connector = connector_to(alloc, peer)?;
+    let mut peers = Vec::new(alloc);
+    peers.push(peer)?;
+    run_over(alloc, client, peers, schedule)
+}
+
+/// Runs one request between a client and these peers, by that schedule: two attempts at most.
+pub(super) fn run_over(
+    alloc: Global,
+    client: ScriptLink,
+    peers: Vec<ScriptLink>,
+    schedule: ListSchedule,
+) -> Result<Ran, Fail> {
+    let connector = connector_to(alloc, peers)?;
     let purger = MemoryPurger::new(alloc, Purged::NotFound);
-    let conf = ServerConf { max_retries: 1 };
+    let conf = ServerConf { max_retries: 2 };
     let application = Defaults::new(Peer {
         address: Bytes::from_static(b"a"),
         tls: false,
@@ -87,11 +123,18 @@ pub(super) fn run(
         kept: false,
         client_faults: client.link().faults(),
         peer_faults: 0,
+        again: None,
     };
     if let Some(returned) = proxy.connector().returned().first() {
         ran.sent = Vec::from_slice(alloc, returned.link.taken())?;
         ran.kept = returned.keep;
         ran.peer_faults = returned.link.faults();
+    }
+    if let Some(returned) = proxy.connector().returned().get(1) {
+        ran.again = Some(Again {
+            sent: Vec::from_slice(alloc, returned.link.taken())?,
+            kept: returned.keep,
+        });
     }
     Ok(ran)
 }
@@ -165,23 +208,37 @@ pub(super) const BAD_GATEWAY: &[u8] = b"HTTP/1.1 502 Bad Gateway\r\nserver: Ping
 /// More writes than a link of these tests gets.
 pub(super) const WRITES: usize = 24;
 
-/// A link with these items, which takes five bytes at a write, and fails as it is told.
+/// A link with these items, which takes five bytes at a write, and fails as it is told, after which
+/// nothing is to be tried again.
 pub(super) fn slow_link(
     alloc: Global,
     items: Vec<ReadItem>,
     failing: Failing,
 ) -> Result<ScriptLink, AllocError> {
+    marked_link(alloc, items, failing, false)
+}
+
+/// The same, whose fault says whether the request is to be tried again.
+pub(super) fn marked_link(
+    alloc: Global,
+    items: Vec<ReadItem>,
+    failing: Failing,
+    again: bool,
+) -> Result<ScriptLink, AllocError> {
+    let retry = RetryType::Decided(again);
     let mut read = Vec::new(alloc);
     for (call, item) in items.into_iter().enumerate() {
         if failing == Failing::Read(call) {
-            read.push(ReadItem::Fault(fault(FaultKind::Read)))?;
+            let kind = FaultKind::Read;
+            read.push(ReadItem::Fault(Fault { kind, retry }))?;
         }
         read.push(item)?;
     }
     let mut write = Vec::new(alloc);
     for call in 0..WRITES {
         if failing == Failing::Write(call) {
-            write.push(WriteItem::Fault(fault(FaultKind::Write)))?;
+            let kind = FaultKind::Write;
+            write.push(WriteItem::Fault(Fault { kind, retry }))?;
         }
         write.push(WriteItem::Take(5))?;
     }
@@ -194,9 +251,18 @@ pub(super) fn only(
     branch: Branch,
     times: usize,
 ) -> Result<ListSchedule, AllocError> {
-    let mut branches = Vec::new(alloc);
+    in_turn(alloc, &[branch], times)
+}
+
+/// A schedule that names these branches one behind the other, so many times.
+pub(super) fn in_turn(
+    alloc: Global,
+    branches: &[Branch],
+    times: usize,
+) -> Result<ListSchedule, AllocError> {
+    let mut named = Vec::new(alloc);
     for _ in 0..times {
-        branches.push(branch)?;
+        named.extend_from_slice(branches)?;
     }
-    Ok(ListSchedule::new(branches))
+    Ok(ListSchedule::new(named))
 }

@@ -1,4 +1,5 @@
 //! Each public call once with ample memory, on links in memory.
 
+mod replay;
 mod session;
 mod writing;

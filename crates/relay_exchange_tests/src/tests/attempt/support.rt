@@ -80,6 +80,15 @@ fn session_of(alloc: Global, client: &mut Client) -> HttpSession {
     session
 }
 
+/// Reads the body of that session so many times.
+fn read_body(alloc: Global, session: &mut HttpSession, client: &mut Client, reads: usize) {
+    for _ in 0..reads {
+        if session.has_head() {
+            let _ = session.read_body_or_idle(alloc, client, false);
+        }
+    }
+}
+
 /// Runs the exchange of the client's request at that peer, by that schedule, until it ends, both
 /// links are silent, or so many turns were taken. None where it did not begin.
 pub(super) fn exchange(
@@ -89,10 +98,23 @@ pub(super) fn exchange(
     schedule: ListSchedule,
     turns: usize,
 ) -> Option<Came> {
+    exchange_behind(alloc, from_client, 0, from_peer, schedule, turns)
+}
+
+/// The same where the body was read so many times before the exchange begins.
+pub(super) fn exchange_behind(
+    alloc: Global,
+    from_client: Vec<ReadItem>,
+    reads: usize,
+    from_peer: Vec<ReadItem>,
+    schedule: ListSchedule,
+    turns: usize,
+) -> Option<Came> {
     let mut schedule = schedule;
     let link = ScriptLink::new(alloc, from_client, Vec::new(alloc));
     let mut client = Connection::new(alloc, link);
-    let session = session_of(alloc, &mut client);
+    let mut session = session_of(alloc, &mut client);
+    read_body(alloc, &mut session, &mut client, reads);
     if !session.has_head() {
         return None;
     }

@@ -141,3 +141,40 @@ fn writes_a_batch(rt: HostRuntime) -> Checked {
     );
     Ok(())
 }
+
+/// How many bytes a session has kept of its body, where they are the first of `abcd`; none where
+/// they are others.
+fn kept_of_abcd(alloc: Global, session: &mut HttpSession) -> relay_tasks::Result<Option<usize>> {
+    let Some(bytes) = session.get_retry_buffer(alloc)? else {
+        return Ok(Some(0));
+    };
+    if !b"abcd".starts_with(bytes.as_slice()) {
+        return Ok(None);
+    }
+    Ok(Some(bytes.len()))
+}
+
+/// Two sides, one behind the other, that each read a piece of a body: what the reads gave, and how
+/// many bytes the session has kept behind each.
+fn read_by_two_sides(
+    alloc: Global,
+) -> relay_tasks::Result<([&'static str; 2], [Option<usize>; 2])> {
+    let head = b"PUT / HTTP/1.1\r\nHost: h\r\nContent-Length: 4\r\n\r\nab";
+    let mut client = client(alloc, head, b"cd", WriteItem::Take(1000))?;
+    let mut side = side_of(alloc, &mut client);
+    let first = read_word(&mut side, &mut client);
+    let mut session = side.into_session();
+    let one = kept_of_abcd(alloc, &mut session)?;
+    let mut side = ClientSide::new(alloc, session);
+    let second = read_word(&mut side, &mut client);
+    let mut session = side.into_session();
+    let both = kept_of_abcd(alloc, &mut session)?;
+    Ok(([first, second], [one, both]))
+}
+
+#[test]
+fn goes_on_with_what_another_side_read(rt: HostRuntime) -> Checked {
+    let came = read_by_two_sides(rt.alloc())?;
+    assert_eq!(rt; came, (["piece", "last"], [Some(2), Some(4)]));
+    Ok(())
+}
