@@ -3,7 +3,7 @@
 --
 --   uncounted               tasks behind which no final head was queued count no byte of a body
 --   unqueued_parts          what a response has of which nothing was queued
---   begins_again            a session that stands as it did begins anew, where the client's link is
+--   begins_again            such a session begins anew, where the client's link is
 --   based_begins            so does one of which nothing was queued or written
 --   begins_any              it begins for each head that may be sent
 --   begins_accepted         its head was accepted
@@ -180,11 +180,9 @@ holds_none response tasks taken holds unqueued =
           counts = text.counts ∙ ap (λ (n : ℕ). min n last_count) zero;
         }
 
--- ---- a request of which nothing was read
+-- ---- a session with which another attempt may begin
 
--- ---- a session that stands as it did
-
--- both halves of it do
+-- both halves of it let one begin
 pub as_begun_parts : (session : HttpSession) → may_begin_again session ≡ true
     → (is_kept session.reading ≡ true) × (is_unqueued session.writing ≡ true)
 as_begun_parts session all = on (is_kept session.reading) (is_unqueued session.writing) all

@@ -308,7 +308,8 @@ pub record IsRelayedEarly
 
 -- why no other attempt follows one whose error was treated so in that call: none may, behind so
 -- many; or a final head was queued, or bytes of the body were read that are kept no longer, as the
--- call was shown; or a part of what was queued for the client was not written
+-- call was shown; or a part of what was queued for the client was not written, or a write to it
+-- failed
 pub data IsOver (s : Start) (client : LinkState) (call : LogEntry) (is_written : Type 0) (e : Error)
     : Type 0 where
   is_last : ¬ (MayTry s.most (1 + made_before s) e) → IsOver s client call is_written e

@@ -98,7 +98,7 @@ pub record LeavesSession (s : Start) (p : Passed) (client : LinkState) (ahead : 
   -- the session has the client's head as hooks left it, and they answered nothing
   pub is_left : head_of session.reading ≡ Some (head_behind head s.called)
   pub quiet : wrote_in s.called ≡ []
-  -- another attempt may begin with it where it stands as it did behind its head
+  -- another attempt may begin with it where the body is kept and the response has not begun
   pub again : may_begin_again session ≡ true
       → BeginsBehind (origin_of (based s client) head sent start.reused) p.came client ahead session
 

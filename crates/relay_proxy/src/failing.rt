@@ -31,8 +31,8 @@ use relay_tasks::Error;
 
 /// The turn of an attempt that failed with that error: the application treats it. Where it was
 /// treated another attempt follows, where one may: the error is marked so, the request has made
-/// fewer attempts than `most`, and its session stands as it did behind its head. Else the
-/// application answers the client. The link is to go back then.
+/// fewer attempts than `most`, and its session lets another one begin. Else the application
+/// answers the client. The link is to go back then.
 pub(crate) fn fail<SV: ProxyHttp, L: ByteLink>(
     app: &SV,
     most: usize,
