@@ -50,9 +50,21 @@ fn closed<A: ProxyHttp + Drop>(
     error: Option<Error>,
     goes_back: bool,
 ) -> Result<Closed<A::Kept>> {
+    closed_as(app, alloc, error, goes_back, true)
+}
+
+/// The same, with the session's keepalive flag on or off before it.
+fn closed_as<A: ProxyHttp + Drop>(
+    app: A,
+    alloc: Global,
+    error: Option<Error>,
+    goes_back: bool,
+    keepalive: bool,
+) -> Result<Closed<A::Kept>> {
     let head = RequestHeader::build(alloc, &Method::GET, b"/a")?;
     let client = HttpSession::begun_http1(alloc, head, Framing::Empty);
     let mut session = Session::new_h1_unmade(alloc, client);
+    session.set_keepalive(keepalive);
     let mut ctx = app.new_ctx();
     let place = run(&app, &mut session, &mut ctx, error, goes_back);
     let came = came_of(&session, place);
@@ -256,5 +268,21 @@ fn keeps_nothing_of_a_client_that_does_not_go_back(rt: HostRuntime) -> Checked {
         logged: None,
     };
     assert_eq!(rt; closed(app, alloc, None, false), Ok((came, None)));
+    Ok(())
+}
+
+#[test]
+fn keeps_nothing_of_a_client_that_is_not_to_be_kept(rt: HostRuntime) -> Checked {
+    let alloc = rt.alloc();
+    let app = app_of(alloc, Hook::PersistConnectionContext, Action::Keep(5))?;
+    let came = Came {
+        told: Told::Finished,
+        error: None,
+        code: 0,
+        answered: false,
+        hooks: [Some(Hook::Logging), None, None, None, None],
+        logged: None,
+    };
+    assert_eq!(rt; closed_as(app, alloc, None, true, false), Ok((came, None)));
     Ok(())
 }
