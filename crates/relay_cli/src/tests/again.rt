@@ -139,7 +139,7 @@ fn taken_before(call: usize) -> usize {
     if call < HEAD_WRITES {
         return 5 * call;
     }
-    77 + (call - HEAD_WRITES)
+    (call - HEAD_WRITES).saturating_add(77)
 }
 
 /// Whether the first link, which took all, ended without an answer: that is told, and no other peer
