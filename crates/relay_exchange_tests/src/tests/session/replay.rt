@@ -67,8 +67,8 @@ fn kept(alloc: Global, session: &HttpSession) -> Result<Option<usize>> {
     Ok(Some(bytes.len()))
 }
 
-/// How many bytes a session has kept, whether it is truncated, and whether another attempt may begin
-/// with it.
+/// How many bytes a session has kept, whether it is truncated, and whether another attempt may
+/// begin with it.
 type Kept = (Option<usize>, bool, bool);
 
 /// What that is where so many are kept.
