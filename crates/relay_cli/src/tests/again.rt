@@ -1,5 +1,5 @@
-//! An upload whose first link fails at any of its calls, beside a second peer that answers: what was
-//! read of the body is sent again from its first byte.
+//! An upload whose first link fails at any of its calls, beside a second peer that answers: what
+//! was read of the body is sent again from its first byte.
 use super::support::{
     BAD_GATEWAY, Failing, Ran, WRITES, bytes_item, in_turn, marked_link, push_bytes, run_over,
 };
@@ -139,7 +139,7 @@ fn taken_before(call: usize) -> usize {
     if call < HEAD_WRITES {
         return 5 * call;
     }
-    77 + (call - HEAD_WRITES)
+    (call - HEAD_WRITES).saturating_add(77)
 }
 
 /// Whether the first link, which took all, ended without an answer: that is told, and no other peer

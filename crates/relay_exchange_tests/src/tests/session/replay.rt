@@ -56,7 +56,7 @@ fn reads(alloc: Global, session: &mut HttpSession, client: &mut Client, pieces: 
 }
 
 /// How many bytes are kept, which are the first of the body; none where they are others.
-fn kept(alloc: Global, session: &mut HttpSession) -> Result<Option<usize>> {
+fn kept(alloc: Global, session: &HttpSession) -> Result<Option<usize>> {
     let Some(bytes) = session.get_retry_buffer(alloc)? else {
         return Ok(Some(0));
     };
@@ -67,18 +67,27 @@ fn kept(alloc: Global, session: &mut HttpSession) -> Result<Option<usize>> {
     Ok(Some(bytes.len()))
 }
 
-/// What a session answers that has kept so many bytes: how many they are, asked twice, whether it
-/// is truncated, and whether another attempt may begin with it.
-type Kept = (Option<usize>, Option<usize>, bool, bool);
+/// How many bytes a session has kept, whether it is truncated, and whether another attempt may
+/// begin with it.
+type Kept = (Option<usize>, bool, bool);
 
 /// What that is where so many are kept.
 fn holds(len: usize) -> Option<Kept> {
-    Some((Some(len), Some(len), false, true))
+    Some((Some(len), false, true))
 }
 
 /// What it is where they are more than are kept.
 fn truncated() -> Option<Kept> {
-    Some((Some(0), Some(0), true, false))
+    Some((Some(0), true, false))
+}
+
+/// What a session answers.
+fn answers(alloc: Global, session: &HttpSession) -> Result<Kept> {
+    Ok((
+        kept(alloc, session)?,
+        session.retry_buffer_truncated(),
+        session.may_begin_again(),
+    ))
 }
 
 /// What it is once so many pieces came of a body in these parts; none where they did not.
@@ -88,14 +97,7 @@ fn kept_after(alloc: Global, parts: [usize; 3], pieces: usize) -> Result<Option<
     if !reads(alloc, &mut session, &mut client, pieces) {
         return Ok(None);
     }
-    let first = kept(alloc, &mut session)?;
-    let again = kept(alloc, &mut session)?;
-    Ok(Some((
-        first,
-        again,
-        session.retry_buffer_truncated(),
-        session.may_begin_again(),
-    )))
+    Ok(Some(answers(alloc, &session)?))
 }
 
 #[test]
@@ -137,24 +139,9 @@ fn keeps_nothing_of_65537_bytes(rt: HostRuntime) -> Checked {
     Ok(())
 }
 
-/// What a session answers before it has read a head.
-fn kept_at_first(alloc: Global) -> Result<Kept> {
-    let mut session = HttpSession::new_http1(alloc);
-    let first = kept(alloc, &mut session)?;
-    let again = kept(alloc, &mut session)?;
-    Ok((
-        first,
-        again,
-        session.retry_buffer_truncated(),
-        session.may_begin_again(),
-    ))
-}
-
 #[test]
 fn begins_no_attempt_without_a_head(rt: HostRuntime) -> Checked {
-    assert_eq!(rt;
-        kept_at_first(rt.alloc())?,
-        (Some(0), Some(0), false, false)
-    );
+    let session = HttpSession::new_http1(rt.alloc());
+    assert_eq!(rt; answers(rt.alloc(), &session)?, (Some(0), false, false));
     Ok(())
 }

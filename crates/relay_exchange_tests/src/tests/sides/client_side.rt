@@ -144,7 +144,7 @@ fn writes_a_batch(rt: HostRuntime) -> Checked {
 
 /// How many bytes a session has kept of its body, where they are the first of `abcd`; none where
 /// they are others.
-fn kept_of_abcd(alloc: Global, session: &mut HttpSession) -> relay_tasks::Result<Option<usize>> {
+fn kept_of_abcd(alloc: Global, session: &HttpSession) -> relay_tasks::Result<Option<usize>> {
     let Some(bytes) = session.get_retry_buffer(alloc)? else {
         return Ok(Some(0));
     };
@@ -163,12 +163,12 @@ fn read_by_two_sides(
     let mut client = client(alloc, head, b"cd", WriteItem::Take(1000))?;
     let mut side = side_of(alloc, &mut client);
     let first = read_word(&mut side, &mut client);
-    let mut session = side.into_session();
-    let one = kept_of_abcd(alloc, &mut session)?;
+    let session = side.into_session();
+    let one = kept_of_abcd(alloc, &session)?;
     let mut side = ClientSide::new(alloc, session);
     let second = read_word(&mut side, &mut client);
-    let mut session = side.into_session();
-    let both = kept_of_abcd(alloc, &mut session)?;
+    let session = side.into_session();
+    let both = kept_of_abcd(alloc, &session)?;
     Ok(([first, second], [one, both]))
 }
 
