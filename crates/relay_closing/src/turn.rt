@@ -20,8 +20,8 @@ use relay_phases::{
 /// `goes_back` says that the client's connection may serve another request: behind `logging`
 /// `persist_connection_context` is called where it does, and nothing where it does not. Where the
 /// session's keepalive flag is off behind `logging`, the client is gone, and nothing more is called
-/// (RFC 9112, section 9.6). Once the request has ended nothing is called. The context is that of the request, and `app` the
-/// application to which it belongs; each turn is given the same.
+/// (RFC 9112, section 9.6). Once the request has ended nothing is called. The context is that of the
+/// request, and `app` the application to which it belongs; each turn is given the same.
 pub fn take_turn<SV: ProxyHttp>(
     app: &SV,
     session: &mut Session<SV::Modules>,

@@ -1,6 +1,6 @@
 //! The bytes of a request's body that are kept, so that another attempt sends them again from the
 //! first one on (RFC 9110, section 9.2.2).
-ghost use Rattle.std.specs.Prelude.{◌≡◌, List, [], ◌++◌, ℕ, IfOk, IsOkUnless, OnOk};
+ghost use Rattle.std.specs.Prelude.{◌≡◌, List, [], ◌++◌, ℕ, IfOk, IsOkUnless, OnErr, OnOk};
 ghost use Rattle.relay_session.specs.Replay.{Keeps, is_kept, retry_buffer};
 
 use bytes::Bytes;
@@ -47,11 +47,13 @@ impl Run {
         }
     }
 
-    /// Copies that piece behind them, where it makes them no more than are kept.
+    /// Copies that piece behind them.
     ///
-    /// Fails out of memory alone.
+    /// Fails out of memory alone; then nothing was copied.
     fn push(&mut self, piece: &[u8]) -> Result<()>
         ensures ok { OnOk result (self.new ≡ self.old ++ piece.now) }
+        ensures memory { IsOkUnless result Fail.OutOfMemory }
+        ensures kept { OnErr result (self.new ≡ self.old) }
     {
         self.bytes.extend_from_slice(piece)?;
         Ok(())
