@@ -198,6 +198,33 @@ impl<D, U> Exchange<D, U> {
 }
 
 impl<D, U> Exchange<D, U> {
+    /// The exchange with that client's side in the place of its own, and its own. All else stays:
+    /// so an exchange is held between turns without what its client's side borrows, and its past
+    /// is what it was wherever the sides' pasts are. It takes no memory.
+    pub fn replace_down<E>(self, down: E) -> (Exchange<E, U>, D)
+        ensures exchange { result.0 ≡ record {
+          down = down;
+          up = self.up;
+          duplex = self.duplex;
+          stage = self.stage;
+        } }
+        ensures down { result.1 ≡ self.down }
+    {
+        let Exchange {
+            down: own,
+            up,
+            duplex,
+            stage,
+        } = self;
+        let exchange = Exchange {
+            down,
+            up,
+            duplex,
+            stage,
+        };
+        (exchange, own)
+    }
+
     /// Both sides.
     pub fn into_parts(self) -> (D, U)
         ensures down { result.0 ≡ self.down }

@@ -6,3 +6,6 @@ mod ResponseLemmas
 mod ModuleLemmas
 mod BatchLemmas
 mod SideLemmas
+mod MoveLemmas
+mod LentSide
+mod StateLemmas

@@ -20,6 +20,8 @@ use Rattle.relay_calls.specs.Log.{AllowsBy, IsAllowed, LeavesIf, is_module}
 use Rattle.relay_calls.specs.Modules.{CallsModule, called, module_entry, replied}
 use Rattle.relay_calls.proofs.CallLemmas.{CallsOf-walks}
 use Rattle.relay_calls.proofs.LogLemmas.{Views-same, Walk-append}
+use Rattle.relay_sides.specs.Lent.{SameButHead}
+use Rattle.relay_sides.proofs.LentLemmas.{lent_same, lent_twice}
 use Rattle.relay_filters.specs.Chain.{AllPass, Called, FrontPasses, Gave, Refuses, by_check, by_hook, checked}
 use Rattle.relay_filters.specs.Response.{Adds, AddsSome, Outcome, SomeAllow}
 use Rattle.relay_filters.proofs.ChainLemmas.{all_append, all_one, refuses_behind}
@@ -37,6 +39,7 @@ adds_none allows seen mark head = record {
   log = sym (append-nil seen.log);
   walk = Views-same _;
   head = head;
+  client = lent_same seen.downstream;
 }
 
 -- calls behind calls
@@ -48,6 +51,7 @@ adds_both allows old m mid m1 new m2 es fs a b = record {
   walk = Walk-append allows es fs (standing None false (moment old m))
       (standing None false (moment mid m1)) (standing None false (moment new m2)) a.walk b.walk;
   head = b.head;
+  client = lent_twice old.downstream mid.downstream new.downstream a.client b.client;
 }
 
 -- the same where memory was wanted in the end
@@ -81,6 +85,19 @@ adds_lost allows old m new is = record {
 
 -- ---- one call
 
+-- of the client's session a call of the application changes no more than the head
+pub call_client : (app : Standing → LogEntry → Type 0) (which : Hook) (input : Item) (old : Seen)
+    (mark : ℕ) (new : Seen) (mark' : ℕ) (left : Left)
+    → Calls app which input old mark new mark' left
+    → SameButHead old.downstream new.downstream
+call_client app which input old mark new mark' left call =
+    subst (λ (s : Seen). SameButHead old.downstream s.downstream) (sym call.rest)
+    (record {
+      head = call.lawful.request.head;
+      but_head = call.lawful.request.but_head;
+      writing = ap (λ (s : Seen). s.downstream.writing) call.lawful.rest;
+    })
+
 -- a call of the application
 module _ (app : Standing → LogEntry → Type 0) (modules : ModuleCall → Type 0) (which : Hook)
     (input : Item) (old : Seen) (mark : ℕ) (new : Seen) (mark' : ℕ) (left : Left)
@@ -96,6 +113,7 @@ module _ (app : Standing → LogEntry → Type 0) (modules : ModuleCall → Type
     walk = CallsOf-walks app modules None false which input old mark new mark' left call is_app;
     head = subst (λ (s : Seen). IsSome (head_of s.downstream.reading)) (sym call.rest)
         (call.lawful.request.head head);
+    client = call_client app which input old mark new mark' left call;
   }
 
 -- modules that stand allow it as some
@@ -147,6 +165,8 @@ module _ (app : Standing → LogEntry → Type 0) {M : Type 0} (allows : M → M
       },
     );
     head = subst (λ (s : Seen). IsSome (head_of s.downstream.reading)) (sym made.rest) head;
+    client = subst (λ (s : Seen). SameButHead old.downstream s.downstream) (sym made.rest)
+        (lent_same old.downstream);
   }
 
 -- ---- what filters come to

@@ -33,7 +33,7 @@ use Rattle.relay_filters.specs.Chain.{AllPass, PassedModules, PassesModules, Ref
 use Rattle.relay_filters.specs.Request.{Filtered, Filters, PassesRequest, is_last, piece_of}
 use Rattle.relay_filters.specs.Response as batches
 use Rattle.relay_filters.specs.Response.{Adds, AddsSome, BatchPasses, BatchStops, MakesOf, Outcome, PartsOf, Stage, WasMade}
-use Rattle.relay_filters.specs.Hooked.{BlamesOver, IsHooked, IsLogged, RefusesOver, TakesOn, by_filter, by_inner, failure_in_front, had_stopped, inside, opened, refused_at_once}
+use Rattle.relay_filters.specs.Hooked.{BlamesOver, IsHooked, IsLogged, RefusesOver, TakesOn, by_filter, by_inner, failure_in_front, had_stopped, inside, refused_at_once}
 use Rattle.relay_filters.proofs.ChainLemmas.{all_append, all_split, parts_append, refuses_behind}
 use Rattle.relay_filters.proofs.RequestLemmas.{one_lost, one_piece, one_refused, same_request}
 
@@ -381,23 +381,6 @@ pub no_head : {A : Type 0} (inner : DownPast → Type 0) (allows : Standing → 
     → IsHooked inner allows method seen mark first oh a ended u rf stood st p → A
 no_head inner allows method seen mark first oh a ended u rf stood st p on none h =
     absurd (none (h.head on))
-
--- ---- a batch
-
--- a client that is not upgraded was not before
-pub not_before : (u u' : Bool) → (IsTrue u → u' ≡ true) → u' ≡ false → u ≡ false
-not_before true u' stays plain = absurd (apart (sym (stays refl) ∙ plain))
-  where
-    apart : true ≡ false → ⊥
-    apart is = cc
-not_before false u' stays plain = refl
-
--- and its request is as open as before
-pub not_opened : (ended u u' : Bool) → (IsTrue u → u' ≡ true) → u' ≡ false
-    → (u ≡ false) × (opened ended u u' ≡ ended)
-not_opened ended true u' stays plain = (not_before true u' stays plain, refl)
-not_opened ended false true stays plain = cc
-not_opened ended false false stays plain = (refl, refl)
 
 -- ---- a piece
 
@@ -772,18 +755,20 @@ batch_open inner inner' blames' allows method seen mark first oh a ended ended' 
     }
 
 -- a batch was refused by a filter, or memory was wanted: nothing of it is queued
-stops_batch : (inner : DownPast → Type 0) (refuses : DownPast → List HttpTask → Error → Type 0)
+stops_batch : (inner inner' : DownPast → Type 0)
+    (refuses : DownPast → List HttpTask → Error → Type 0)
     (allows : Standing → LogEntry → Type 0) (method : List ℕ) (seen : Seen) (mark first : ℕ)
     (oh a ended u stood stand : Bool) (p : DownPast) (tasks : List HttpTask) (why : Fail)
     (seen' : Seen)
-    (mark' : ℕ) → IsHooked inner allows method seen mark first oh a ended u false stood None p
+    (mark' : ℕ) → ((q : DownPast) → inner q → inner' q)
+    → IsHooked inner allows method seen mark first oh a ended u false stood None p
     → Outcome {Y = List HttpTask} allows (λ es out. BatchPasses oh stand tasks es out)
     (BatchStops oh stand tasks) (Refuses oh) (Err why) seen mark seen' mark'
-    → BatchRefused (IsHooked inner allows method seen' mark' first oh a ended u false stood
-    (Some why)) (λ past left e. RefusesOver inner refuses oh stand (Some why) seen'.log past left e)
-    p tasks why
-stops_batch inner refuses allows method seen mark first oh a ended u stood stand p tasks
-    (fail.Error error) seen' mark' h (es, adds, fed, refused) =
+    → BatchRefused (IsHooked inner' allows method seen' mark' first oh a ended u false stood
+    (Some why)) (λ past left e. RefusesOver inner' refuses oh stand (Some why) seen'.log past left
+    e) p tasks why
+stops_batch inner inner' refuses allows method seen mark first oh a ended u stood stand p tasks
+    (fail.Error error) seen' mark' so_inside h (es, adds, fed, refused) =
     let parts = stop_parts oh stand tasks es fed in
     record {
       filtered = [];
@@ -793,7 +778,7 @@ stops_batch inner refuses allows method seen mark first oh a ended u stood stand
       stands = record {
         came = h.came;
         queued = h.queued;
-        holds = h.holds;
+        holds = so_inside (inside p h.came h.queued) h.holds;
         before = h.before;
         own = h.own ++ es;
         parts = parts_behind h.before h.own es seen.log seen'.log h.parts adds.log;
@@ -827,8 +812,8 @@ stops_batch inner refuses allows method seen mark first oh a ended u stood stand
 
     error_is : {x : Error} → fail.Error error ≡ fail.Error x → error ≡ x
     error_is is = cc
-stops_batch inner refuses allows method seen mark first oh a ended u stood stand p tasks
-    fail.OutOfMemory seen' mark' h (es, adds, fed) =
+stops_batch inner inner' refuses allows method seen mark first oh a ended u stood stand p tasks
+    fail.OutOfMemory seen' mark' so_inside h (es, adds, fed) =
     let parts = stop_parts oh stand tasks es fed in
     record {
       filtered = [];
@@ -838,7 +823,7 @@ stops_batch inner refuses allows method seen mark first oh a ended u stood stand
       stands = record {
         came = h.came;
         queued = h.queued;
-        holds = h.holds;
+        holds = so_inside (inside p h.came h.queued) h.holds;
         before = h.before;
         own = h.own ++ es;
         parts = parts_behind h.before h.own es seen.log seen'.log h.parts adds.log;
@@ -943,24 +928,30 @@ batch_goes inner inner' blames' allows method seen mark first oh a ended ended' 
     batch_open inner inner' blames' allows method seen mark first oh a ended ended' u u' stood stand
     p tasks made seen' mark' h
 
-pub batch_stops : (inner : DownPast → Type 0) (refuses : DownPast → List HttpTask → Error → Type 0)
+pub batch_stops : (inner inner' : DownPast → Type 0)
+    (refuses : DownPast → List HttpTask → Error → Type 0)
     (allows : Standing → LogEntry → Type 0) (method : List ℕ) (seen : Seen) (mark first : ℕ)
     (oh a ended u rf stood stand : Bool) (st : Option Fail) (has : Bool) (p : DownPast)
     (tasks : List HttpTask) (why : Fail) (seen' : Seen) (mark' : ℕ)
-    → refused_at_once st rf has tasks ≡ None
+    → refused_at_once st rf has tasks ≡ None → ((q : DownPast) → inner q → inner' q)
     → IsHooked inner allows method seen mark first oh a ended u rf stood st p
     → Outcome {Y = List HttpTask} allows (λ es out. BatchPasses oh stand tasks es out)
     (BatchStops oh stand tasks) (Refuses oh) (Err why) seen mark seen' mark'
-    → BatchRefused (IsHooked inner allows method seen' mark' first oh a ended u rf stood (Some why))
-    (λ past left e. RefusesOver inner refuses oh stand (Some why) seen'.log past left e) p tasks why
-batch_stops inner refuses allows method seen mark first oh a ended u rf stood stand (Some before)
-    has p tasks why seen' mark' on h = some_none _ on
-batch_stops inner refuses allows method seen mark first oh a ended u true stood stand None has p
-    tasks why seen' mark' on h = some_none _ on
-batch_stops inner refuses allows method seen mark first oh a ended u false stood stand None has p
-    tasks why seen' mark' on h =
-    stops_batch inner refuses allows method seen mark first oh a ended u stood stand p tasks why
-    seen' mark' h
+    → BatchRefused (IsHooked inner' allows method seen' mark' first oh a ended u rf stood
+    (Some why)) (λ past left e. RefusesOver inner' refuses oh stand (Some why) seen'.log past left
+    e) p tasks why
+batch_stops inner inner' refuses allows method seen mark first oh a ended u rf stood stand (Some
+    before)
+    has p tasks why seen' mark' on so_inside h = some_none _ on
+batch_stops inner inner' refuses allows method seen mark first oh a ended u true stood stand None
+    has p
+    tasks why seen' mark' on so_inside h = some_none _ on
+batch_stops inner inner' refuses allows method seen mark first oh a ended u false stood stand None
+    has p
+    tasks why seen' mark' on so_inside h =
+    stops_batch inner inner' refuses allows method seen mark first oh a ended u stood stand p tasks
+    why
+    seen' mark' so_inside h
 
 pub batch_refused : (inner inner' : DownPast → Type 0)
     (refuses' : DownPast → List HttpTask → Error → Type 0)
@@ -1121,20 +1112,3 @@ begins holds allows method seen mark first oh ended u p len head none none' own 
       all = λ so. refl;
       pass = subst (λ (l : List HttpTask). AllPass chain [] l []) (sym is) refl;
     }
-
--- ---- the states
-
--- a write leaves whether the client was upgraded
-pub writes_leave : (old new : DownState) (answer : Put) → Writes old new answer
-    → new.upgraded ≡ old.upgraded
-writes_leave old new (put.Took n) w = ap (λ (s : DownState). s.upgraded) w
-writes_leave old new put.NotReady w = ap (λ (s : DownState). s.upgraded) w
-writes_leave old new put.Silent w = ap (λ (s : DownState). s.upgraded) w
-writes_leave old new (put.Failed fault) w = ap (λ (s : DownState). s.upgraded) w
-writes_leave old new put.OutOfMemory w = ap (λ (s : DownState). s.upgraded) w
-
--- a body whose last piece did not pass has not ended
-pub still_open : (done client : Bool)
-    → (if not done then false else (done || client)) ≡ done
-still_open true client = refl
-still_open false client = refl

@@ -1,45 +1,66 @@
 -- What passed through a side behind filters: what its inner side put and was given, and by the log
 -- what the filters let pass and made of it.
-use Rattle.std.specs.Prelude.{◌≡◌, ℕ, Bool, true, false, not, ◌&&◌, if◌then◌else◌, ◌⊎◌, List, [], ◌∷◌, ◌++◌, length, Option, Some, None, is_some, option_map, unwrap_or, IsSome}
+use Rattle.std.specs.Prelude.{◌≡◌, ℕ, Bool, true, false, ◌||◌, if◌then◌else◌, ◌⊎◌, List, [], ◌∷◌, ◌++◌, length, Option, Some, None, is_some, option_map, unwrap_or, IsSome}
 use Rattle.relay_tasks.specs.declared.error.Error.{Error}
 use Rattle.relay_tasks.specs.declared.error.Fail.{Fail}
 use Rattle.relay_tasks.specs.declared.error.Fail.TheVariants as fail
 use Rattle.relay_tasks.specs.declared.log.LogEntry.{LogEntry}
 use Rattle.relay_tasks.specs.declared.task.HttpTask.{HttpTask}
 use Rattle.relay_tasks.specs.declared.task.HttpTask.TheVariants as task
+use Rattle.relay_tasks.specs.Head.{RequestHead, new_request}
+use Rattle.relay_links.specs.Link.{LinkState}
 use Rattle.relay_session.specs.Reading.{head_of}
+use Rattle.relay_session.specs.declared.session.HttpSession.{HttpSession}
 use Rattle.relay_core.specs.Down.{DownState}
-use Rattle.relay_core.specs.Past.{DownPast}
+use Rattle.relay_core.specs.Past.{DownPast, Origin}
 use Rattle.relay_core.specs.declared.told.Told.{Told}
 use Rattle.relay_modules.specs.declared.seen.Seen.{Seen}
 use Rattle.relay_hooks.specs.Standing.{Standing, standing}
 use Rattle.relay_hooks.specs.Session.{moment}
 use Rattle.relay_calls.specs.Log.{Walk, requests_in}
+use Rattle.relay_sides.specs.Client.{IsSide, state_of}
 use Rattle.relay_sides.specs.Filtered.{is_head_request}
+use Rattle.relay_sides.specs.declared.client_side.ClientSide.{ClientSide}
 use Rattle.relay_filters.specs.Chain.{Refuses}
 use Rattle.relay_filters.specs.Request.{PassesRequest}
 use Rattle.relay_filters.specs.Response.{BatchStops, MakesOf, WasMade}
+use Rattle.relay_filters.specs.declared.unhooked.Shown.{Shown}
 
 -- ---- the state
 
--- the end of the client's body came with a piece that did not pass
-abbrev pub is_held : Option Fail → Bool → Bool
-is_held stopped held = is_some stopped && held
+-- the state of a client's side
+abbrev pub state_of_side : ClientSide → DownState
+state_of_side side = state_of side.session side.told side.done side.finished side.broken
+
+-- memory was wanted in a call of a hook. It may have left anything in the client's session, which
+-- is
+-- neither read nor written from then on
+abbrev pub is_lost : Option Fail → Bool
+is_lost None = false
+is_lost (Some fail.OutOfMemory) = true
+is_lost (Some (fail.Error error)) = false
+
+-- whether the client's body has ended: once the side has stopped, whether it had then, since its
+-- last piece may not have passed
+abbrev pub shown_done : Option Fail → Bool → Bool → Bool
+shown_done stopped was now = if is_some stopped then was else now
+
+-- whether output is pending: where the client's session is lost, whether it was
+abbrev pub shown_pending : Option Fail → Bool → Bool → Bool
+shown_pending stopped was now = if is_lost stopped then was else now
 
 -- the state of the side over that of its inner one: the request ends where the filter lets it end,
 -- a body whose last piece did not pass has not ended, the side tells of its own answers, and the
--- calls of hooks that its reads have made are those of the request in the log
-abbrev pub state_over : DownState → Bool → Option Fail → Bool → Told → List LogEntry → DownState
-state_over inner ended stopped held told log = record inner {
+-- calls of hooks that its reads have made are those of the request in the log. `was` is what the
+-- side showed when it stopped
+abbrev pub state_over : DownState → Bool → Option Fail → Shown → Told → List LogEntry → DownState
+state_over inner ended stopped was told log = record inner {
   request_ended = ended;
-  body_done = if is_held stopped held then false else inner.body_done;
+  body_done = shown_done stopped was.body_done inner.body_done;
+  pending = shown_pending stopped was.pending inner.pending;
   told = told;
   calls = length (requests_in log);
 }
-
--- the request is open again where an upgrade was accepted in between
-abbrev pub opened : Bool → Bool → Bool → Bool
-opened ended before after = if not before && after then false else ended
 
 -- the error of a failure in front
 abbrev pub failure_in_front : List HttpTask → Option Error
@@ -62,6 +83,31 @@ refused_at_once None false true tasks = None
 refused_at_once None false false tasks = Some fail.OutOfMemory
 
 -- ---- what passed
+
+-- the session that hooks are shown: the client's own stands in it
+abbrev pub seen_by : Seen → HttpSession → Seen
+seen_by seen client = record seen { downstream = client }
+
+-- whether a head of the request stands, as a head that stays where hooks change the one that was
+-- read; the client's session that is lost had one
+abbrev pub stood_head : Bool → HttpSession → Option RequestHead
+stood_head lost client =
+    if lost || is_some (head_of client.reading) then Some (new_request [] []) else None
+
+-- the past of the inner side over the client's session; where that is lost, over the one before
+abbrev pub PastOf : Bool → (HttpSession → DownPast → Type 0) → HttpSession → DownPast → Type 0
+PastOf false past client p = past client p
+PastOf true past client p = (before : HttpSession) × past before p
+
+-- what passed through a client's side, over that session in the place of its own
+abbrev pub PastBy : Origin → LinkState → List ℕ → ClientSide → HttpSession → DownPast → Type 0
+PastBy s link ahead side client p =
+    IsSide s p link ahead client side.told side.done side.finished side.broken
+
+-- what passed through the inner side, by what stopped the side over it
+abbrev pub InnerPast : Option Fail → Origin → LinkState → List ℕ → ClientSide → DownPast → Type 0
+InnerPast stopped s link ahead side =
+    PastOf (is_lost stopped) (PastBy s link ahead side) side.session
 
 -- the past of the inner side: it put this, and was given that
 abbrev pub inside : DownPast → List HttpTask → List HttpTask → DownPast

@@ -12,6 +12,7 @@ use Rattle.relay_modules.specs.declared.seen.Seen.{Seen}
 use Rattle.relay_hooks.specs.Session.{moment}
 use Rattle.relay_hooks.specs.Standing.{Standing, standing}
 use Rattle.relay_calls.specs.Log.{Walk, modules_in, requests_in, responses_in}
+use Rattle.relay_sides.specs.Lent.{SameButHead}
 use Rattle.relay_filters.specs.Chain.{AllPass, FrontPasses, ModuleChain, ModuleFeeds, PassedModules, PassesModules, TaskChain, TaskFeeds}
 
 -- ---- what calls add to the log
@@ -29,13 +30,14 @@ pub record PartsOf (es by_app by_modules : List LogEntry) : Type 0 where
   pub modules : modules_in es ≡ by_modules
 
 -- these calls were entered, behind what stood in the log, and lead from the session and the context
--- as they were to both as they are
+-- as they were to both as they are. Of the client's session they changed no more than the head
 pub record Adds (allows : Standing → LogEntry → Type 0) (old : Seen) (mark : ℕ) (new : Seen)
     (mark' : ℕ) (es : List LogEntry) : Type 0 where
   pub log : new.log ≡ old.log ++ es
   pub walk : Walk allows (standing None false (moment old mark)) es
       (standing None false (moment new mark'))
   pub head : IsSome (head_of new.downstream.reading)
+  pub client : SameButHead old.downstream new.downstream
 
 -- the same, where memory was wanted in a call that was not entered: it may have left more
 pub record AddsSome (allows : Standing → LogEntry → Type 0) (old : Seen) (mark : ℕ) (new : Seen)

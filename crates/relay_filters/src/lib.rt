@@ -3,6 +3,10 @@
 #![tactic(auto)]
 
 mod hooked;
+mod lent;
+mod request;
 mod response;
+mod unhooked;
 
 pub use hooked::Hooked;
+pub use unhooked::Unhooked;

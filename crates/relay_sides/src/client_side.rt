@@ -16,6 +16,7 @@ use relay_tasks::{
     Context, Error, ErrorSource, ErrorType, Fail, Fault, HttpTask, Result, TaskList, Took,
 };
 use std::alloc::Global;
+use std::mem;
 
 /// The client's side over the session of one request whose head was read. The session has no link:
 /// the client, which has it, is handed to each call that reads or writes.
@@ -75,6 +76,22 @@ impl ClientSide {
             broken: _,
         } = self;
         session
+    }
+
+    /// Puts that session in the place of its own, which the caller has then: so hooks may be lent
+    /// the side's own session.
+    pub fn swap_session(&mut self, session: &mut HttpSession)
+        ensures given { self.new ≡ record self.old { session = session.old } }
+        ensures taken { session.new ≡ self.old.session }
+    {
+        mem::swap(&mut self.session, session);
+    }
+
+    /// Whether nothing more of the response comes: it is done, or its end was asked for.
+    pub fn is_answered(&self) -> bool
+        ensures { result ≡ (self.now.done || self.now.finished) }
+    {
+        either(self.done, self.finished)
     }
 
     /// Queues the tasks for the client, none behind an end of the response that was asked for. A

@@ -1,6 +1,7 @@
 -- Each kind of task by its own filters: what failed there.
+use Rattle.std.proofs.Common.{[], refl}
 use Rattle.std.proofs.lemmas.Result.{err_from_is_err_and}
-use Rattle.relay_filters.proofs.OutcomeLemmas.{no_chain, stops}
+use Rattle.relay_filters.proofs.OutcomeLemmas.{adds_none, no_chain, stops}
 use Rattle.relay_filters.proofs.response.filter_task.Goals as goal
 
 -- a head
@@ -40,3 +41,15 @@ returns-in_err-filter_fields-in-Trailer-Some g c =
     rw (c.in-Trailer-Some.is, c.in-Trailer-Some.field-0-is, failure.1, failure.2)
     (stops {X = Unit} {Y = Unit} _ no_chain no_chain _ _ _ _ _ _ _ _ (λ es fed. fed)
     c.in_err-filter_fields-in-Trailer-Some.ensures)
+
+-- a task that no filter is called for goes on as it is
+pub returns-in-Trailer-None : goal.returns-in-Trailer-None
+returns-in-Trailer-None g c =
+    rw (c.in-Trailer-None.is, c.in-Trailer-None.field-0-is)
+    ([], adds_none _ _ _ c.requires, (refl, refl))
+
+pub returns-in-Done : goal.returns-in-Done
+returns-in-Done g c = rw c.in-Done.is ([], adds_none _ _ _ c.requires, (refl, refl))
+
+pub returns-in-Failed : goal.returns-in-Failed
+returns-in-Failed g c = rw c.in-Failed.is ([], adds_none _ _ _ c.requires, (refl, refl))

@@ -1,6 +1,8 @@
 -- Each kind of task by its own filter of the modules.
+use Rattle.std.proofs.Common.{[], refl}
 use Rattle.std.proofs.lemmas.Result.{err_from_is_err_and}
 use Rattle.relay_filters.proofs.ModuleLemmas.{module_body_fails, module_body_passes, module_done_fails, module_done_passes, module_trailer_fails, module_trailer_passes, module_upgraded_fails, module_upgraded_passes}
+use Rattle.relay_filters.proofs.OutcomeLemmas.{adds_none}
 use Rattle.relay_filters.proofs.response.pass_task.Goals as goal
 
 -- a piece
@@ -83,3 +85,8 @@ returns-in_ok-answer-in-Done-clause-passes g c =
     g.SV.Modules.HttpModule.allows c.args.session.now.modules c.requires.made c.args.of_head _ _ _
     c.requires.read c.in_ok-answer-in-Done.answer c.ended_by-in-Done.result
     c.ended_by-in-Done.ensures c.in_ok-answer-in-Done.ensures.calls)
+
+-- a failure, which no filter is called for
+pub returns-in-Failed-clause-passes : goal.returns-in-Failed-clause-passes
+returns-in-Failed-clause-passes g c =
+    rw c.in-Failed.is ([], adds_none _ _ _ c.requires.read, (refl, refl))

@@ -1,7 +1,10 @@
--- A piece was filtered or refused; any other answer of the inner side calls no filter.
-use Rattle.std.proofs.Common.{refl, sym, ap, ◌∙◌, append-nil, inr}
-use Rattle.relay_core.specs.Down.{DownState}
-use Rattle.relay_filters.proofs.SideLemmas.{goes_on, reads_piece, stops_at}
+-- A piece was filtered or refused, by hooks that were lent the client's session; any other answer
+-- of the inner side calls no filter.
+use Rattle.std.proofs.Common.{[], IsSome, append-nil, refl, subst, sym}
+use Rattle.relay_session.specs.Reading.{head_of}
+use Rattle.relay_session.specs.declared.session.HttpSession.{HttpSession}
+use Rattle.relay_filters.proofs.LentSide.{client_goes, lent_reads, lent_stops, not_lost, past_of}
+use Rattle.relay_filters.proofs.StateLemmas.{gives_piece}
 use Rattle.relay_filters.proofs.hooked.HookedDown.read_piece.Goals as goal
 
 -- the piece passed its filter
@@ -9,41 +12,68 @@ pub returns-in-Ok-clause-goes : goal.returns-in-Ok-clause-goes
 returns-in-Ok-clause-goes g c =
     rw (c.either-self.ensures)
     (λ s p h.
-    reads_piece _ _ _ _ _ _ _ _ _ _ _ _ _ _ _ _ c.args.self.now.stopped p c.in-Item.piece
-    c.in-Ok.made _
-    _ c.in-None.is h (ap (λ (x : DownState). x.upgraded) c.in-Item.ensures.reads.exact)
-    c.in-Ok.ensures.filters (c.in-Item.ensures.goes s _ h.holds))
+    lent_reads s _ _ _ _ c.args.self.now.side.inner c.read_piece.new.self c.pass_piece.new.inner _
+    _ _ _
+    c.args.self.now.side.session.seen _ _ _ _ _ _ _ c.args.self.now.side.stopped p c.in-Item.piece
+    c.pass_piece.new.session.seen _ c.in-None.is h
+    c.in-Item.ensures.head c.in-Ok.ensures.rest
+    (c.in-Item.ensures.goes s _ (past_of _ _ _ _ (not_lost _ c.in-None.is) h.holds)) c.in-Ok.made
+    c.in-Ok.ensures.filters)
 
--- that was one call more
-pub returns-in-Ok-clause-puts : goal.returns-in-Ok-clause-puts
-returns-in-Ok-clause-puts g c = λ s p h piece is.
-    inr (inr c.in-Ok.ensures.called)
+pub returns-in-Ok-clause-reads : goal.returns-in-Ok-clause-reads
+returns-in-Ok-clause-reads g c =
+    rw (c.either-self.ensures)
+    (gives_piece _ c.args.self.now.side.inner c.read_piece.new.self c.pass_piece.new.inner
+    c.args.self.now.side.session.seen _ c.pass_piece.new.session.seen _ _ _
+    c.args.self.now.side.stopped _ c.args.self.now.side.session.seen.log c.in-Item.piece
+    c.in-Ok.made
+    c.in-None.is c.in-Ok.ensures.rest
+    (rw c.in-Item.ensures.head
+    (subst (λ (x : HttpSession). IsSome (head_of x.reading)) c.session.ensures
+    (c.has_head.ensures.0 c.if-not-has_head.false))) c.in-Item.ensures.reads
+    c.in-Ok.ensures.filters c.in-Ok.ensures.called)
 
 -- the filter refused it, or memory was wanted
 pub returns-in-Err-clause-goes : goal.returns-in-Err-clause-goes
 returns-in-Err-clause-goes g c = λ s p h.
-    stops_at _ _ _ _ _ _ _ _ _ _ _ _ _ _ _ _ c.args.self.now.stopped p c.in-Item.piece c.in-Err.why
+    lent_stops s _ _ _ _ c.args.self.now.side.inner c.read_piece.new.self c.pass_piece.new.inner _
     _ _ _
-    c.in-None.is h (ap (λ (x : DownState). x.upgraded) c.in-Item.ensures.reads.exact)
-    (append-nil p.put) c.in-Err.ensures.filters (c.in-Item.ensures.goes s _ h.holds)
+    c.args.self.now.side.session.seen _ _ _ _ _ _ _ c.args.self.now.side.stopped p c.in-Item.piece
+    c.pass_piece.new.session.seen _ c.in-None.is h
+    c.in-Item.ensures.head c.in-Err.ensures.rest
+    (c.in-Item.ensures.goes s _ (past_of _ _ _ _ (not_lost _ c.in-None.is) h.holds)) c.in-Err.why
+    c.in-Err.ensures.filters
 
 -- the link gave bytes
 pub returns-in-More-clause-goes : goal.returns-in-More-clause-goes
 returns-in-More-clause-goes g c = λ s p h.
-    goes_on _ _ _ _ _ _ _ _ _ _ _ _ _ _ _ _ _ p _ _ _ _ _ _ h
-    (λ low. (sym (ap (λ (x : DownState). x.upgraded) c.in-More.ensures.reads) ∙ low, refl))
-    (append-nil h.came) (append-nil p.put) refl refl (c.in-More.ensures.goes s _ h.holds)
+    client_goes s _ _ _ _ c.args.self.now.side.inner c.read_piece.new.self _ _ _
+    c.args.self.now.side.session.seen
+    _ _ _ _ _ _ _ c.args.self.now.side.stopped p _ _ _ p.batched _ [] _ h (not_lost _ c.in-None.is)
+    c.in-More.ensures.head (append-nil h.came) (append-nil p.put) refl refl
+    (sym (append-nil p.closing))
+    (c.in-More.ensures.goes s _ (past_of _ _ _ _ (not_lost _ c.in-None.is) h.holds))
+
+pub returns-in-More-clause-gives : goal.returns-in-More-clause-gives
+returns-in-More-clause-gives g c = λ s p h is.
+    c.in-More.ensures.gives s _ (past_of _ _ _ _ (not_lost _ c.in-None.is) h.holds) is
 
 -- the inner side has to wait
 pub returns-in-Waited-clause-goes : goal.returns-in-Waited-clause-goes
 returns-in-Waited-clause-goes g c = λ s p h.
-    goes_on _ _ _ _ _ _ _ _ _ _ _ _ _ _ _ _ _ p _ _ _ _ _ _ h
-    (λ low. (sym (ap (λ (x : DownState). x.upgraded) c.in-Waited.ensures.reads) ∙ low, refl))
-    (append-nil h.came) (append-nil p.put) refl refl (c.in-Waited.ensures.goes s _ h.holds)
+    client_goes s _ _ _ _ c.args.self.now.side.inner c.read_piece.new.self _ _ _
+    c.args.self.now.side.session.seen
+    _ _ _ _ _ _ _ c.args.self.now.side.stopped p _ _ _ p.batched _ [] _ h (not_lost _ c.in-None.is)
+    c.in-Waited.ensures.head (append-nil h.came) (append-nil p.put) refl refl
+    (sym (append-nil p.closing))
+    (c.in-Waited.ensures.goes s _ (past_of _ _ _ _ (not_lost _ c.in-None.is) h.holds))
 
 -- the inner side failed
 pub returns-in-Failed-clause-goes : goal.returns-in-Failed-clause-goes
 returns-in-Failed-clause-goes g c = λ s p h.
-    goes_on _ _ _ _ _ _ _ _ _ _ _ _ _ _ _ _ _ p _ _ _ _ _ _ h
-    (λ low. (sym (ap (λ (x : DownState). x.upgraded) c.in-Failed.ensures.reads) ∙ low, refl))
-    (append-nil h.came) (append-nil p.put) refl refl (c.in-Failed.ensures.goes s _ h.holds)
+    client_goes s _ _ _ _ c.args.self.now.side.inner c.read_piece.new.self _ _ _
+    c.args.self.now.side.session.seen
+    _ _ _ _ _ _ _ c.args.self.now.side.stopped p _ _ _ p.batched _ [] _ h (not_lost _ c.in-None.is)
+    c.in-Failed.ensures.head (append-nil h.came) (append-nil p.put) refl refl
+    (sym (append-nil p.closing))
+    (c.in-Failed.ensures.goes s _ (past_of _ _ _ _ (not_lost _ c.in-None.is) h.holds))

@@ -1,6 +1,9 @@
--- A batch passes its filters, and the inner side takes it; or one of them refuses it.
-use Rattle.std.proofs.Common.{refl, sym}
-use Rattle.relay_filters.proofs.SideLemmas.{alone_at_once, at_once, batch_goes, batch_refused, batch_stops, not_before, not_opened, true_is}
+-- A batch passes its filters, which were lent the client's session, and the inner side takes it; or
+-- one of them refuses it.
+use Rattle.std.proofs.Common.{refl, sym, ap, ◌∙◌}
+use Rattle.relay_filters.proofs.LentSide.{lent_batch, lent_fails, lent_holds, lent_refused, takes_head, takes_on}
+use Rattle.relay_filters.proofs.SideLemmas.{alone_at_once, at_once, true_is}
+use Rattle.relay_filters.proofs.StateLemmas.{fails_batch, queues_batch, refuses_batch}
 use Rattle.relay_filters.proofs.hooked.HookedDown.take_batch.Goals as goal
 
 -- before any filter was called
@@ -21,30 +24,70 @@ returns-in-Some-clause-takes g c =
 -- a filter refused it
 pub returns-in-Err-clause-goes : goal.returns-in-Err-clause-goes
 returns-in-Err-clause-goes g c = λ client s p h.
-    batch_stops _ _ _ _ _ _ _ _ _ _ _ _ _ _ _ _ p c.args.tasks c.in-Err.why _ _
-    (sym c.in-None.ensures) h c.in-Err.ensures.filters
+    lent_fails s _ _ c.args.self.now.side.inner c.pass_tasks.new.inner _ _
+    c.args.self.now.side.session.seen
+    _ _ _ _ _ _ _ _ _ c.args.self.now.side.stopped p c.args.tasks
+    c.pass_tasks.new.session.seen _ (sym c.in-None.ensures) h c.in-Err.ensures.rest
+    _ c.in-Err.why c.in-Err.ensures.filters
+
+pub returns-in-Err-clause-takes : goal.returns-in-Err-clause-takes
+returns-in-Err-clause-takes g c =
+    rw c.failed-self-in-Err.ensures
+    (fails_batch c.args.self.now.side.inner c.pass_tasks.new.inner _ c.args.self.now.side.stopped _
+    c.shows-was.result _ c.args.self.now.side.session.seen.log c.pass_tasks.new.session.seen.log
+    c.args.tasks c.in-Err.why (takes_on _ _ _ c.args.tasks (sym c.in-None.ensures))
+    c.shows-was.ensures.body c.in-Err.ensures.requests c.in-Err.ensures.failure)
 
 -- the inner side queued it
 pub returns-in-Ok-take_batch-clause-goes : goal.returns-in-Ok-take_batch-clause-goes
 returns-in-Ok-take_batch-clause-goes g c =
-    rw (
-      c.opened-self.ensures,
-      c.upgraded.ensures,
-      c.upgraded-was.ensures,
-      c.still_stood-self.ensures,
-    )
+    rw c.still_stood-self.ensures
     (λ client s p h.
-    batch_goes _ _ _ _ _ _ _ _ _ _ _ _ _ _ _ _ _ _ _ p c.args.tasks c.in-Ok.made _ _
-    (sym c.in-None.ensures) h
-    (not_opened _ _ _ c.in-Ok-take_batch.ensures.takes.upgraded_stays) c.in-Ok.ensures.filters
-    (c.in-Ok-take_batch.ensures.goes client s _ h.holds))
+    lent_batch s _ _ c.args.self.now.side.inner c.pass_tasks.new.inner _ _
+    c.args.self.now.side.session.seen
+    _ _ _ _ _ _ _ _ _ c.args.self.now.side.stopped p c.args.tasks
+    c.pass_tasks.new.session.seen _ (sym c.in-None.ensures) h c.in-Ok.ensures.rest
+    c.take_batch.new.self _ c.in-Ok.made c.in-Ok-take_batch.ensures.head c.in-Ok.ensures.filters
+    (c.in-Ok-take_batch.ensures.goes client s _
+    (lent_holds s _ _ c.args.self.now.side.inner c.pass_tasks.new.inner _ _
+    c.args.self.now.side.session.seen
+    _ _ _ _ _ _ _ _ _ c.args.self.now.side.stopped p c.args.tasks
+    c.pass_tasks.new.session.seen _ (sym c.in-None.ensures) h c.in-Ok.ensures.rest
+    c.in-Ok.made c.in-Ok.ensures.filters)))
+
+pub returns-in-Ok-take_batch-clause-takes : goal.returns-in-Ok-take_batch-clause-takes
+returns-in-Ok-take_batch-clause-takes g c =
+    queues_batch c.args.self.now.side.inner c.pass_tasks.new.inner c.take_batch.new.self _
+    c.args.self.now.side.stopped _ _ c.args.self.now.side.session.seen.log
+    c.pass_tasks.new.session.seen.log c.args.tasks c.in-Ok.made _
+    (takes_on _ _ _ c.args.tasks (sym c.in-None.ensures)) c.in-Ok.ensures.rest
+    (takes_head _ _ _ c.args.tasks (sym c.in-None.ensures)) c.in-Ok.ensures.filters.1.client
+    c.in-Ok.ensures.requests c.in-Ok.ensures.failures c.in-Ok-take_batch.ensures.takes
 
 -- it refused it
 pub returns-in-Err-take_batch-clause-goes : goal.returns-in-Err-take_batch-clause-goes
 returns-in-Err-take_batch-clause-goes g c =
     rw c.still_stood-self.ensures
     (λ client s p h.
-    batch_refused _ _ _ _ _ _ _ _ _ _ _ _ _ _ _ _ _ _ p c.args.tasks c.in-Ok.made
-    c.in-Err-take_batch.why _ _ (sym c.in-None.ensures) h
-    (not_before _ _ c.in-Err-take_batch.ensures.takes.upgraded_stays) c.in-Ok.ensures.failures
-    c.in-Ok.ensures.filters (c.in-Err-take_batch.ensures.goes client s _ h.holds))
+    lent_refused s _ _ c.args.self.now.side.inner c.pass_tasks.new.inner _ _
+    c.args.self.now.side.session.seen
+    _ _ _ _ _ _ _ _ _ c.args.self.now.side.stopped p c.args.tasks
+    c.pass_tasks.new.session.seen _ (sym c.in-None.ensures) h c.in-Ok.ensures.rest
+    c.take_batch.new.self _ c.in-Ok.made c.in-Err-take_batch.why c.in-Err-take_batch.ensures.head
+    c.in-Ok.ensures.failures c.in-Ok.ensures.filters
+    (c.in-Err-take_batch.ensures.goes client s _
+    (lent_holds s _ _ c.args.self.now.side.inner c.pass_tasks.new.inner _ _
+    c.args.self.now.side.session.seen
+    _ _ _ _ _ _ _ _ _ c.args.self.now.side.stopped p c.args.tasks
+    c.pass_tasks.new.session.seen _ (sym c.in-None.ensures) h c.in-Ok.ensures.rest
+    c.in-Ok.made c.in-Ok.ensures.filters)))
+
+pub returns-in-Err-take_batch-clause-takes : goal.returns-in-Err-take_batch-clause-takes
+returns-in-Err-take_batch-clause-takes g c =
+    rw c.failed-self-in-Err-take_batch.ensures
+    (refuses_batch c.args.self.now.side.inner c.pass_tasks.new.inner c.take_batch.new.self _
+    c.args.self.now.side.stopped _ _ c.args.self.now.side.session.seen.log
+    c.pass_tasks.new.session.seen.log c.args.tasks c.in-Ok.made c.in-Err-take_batch.why
+    (takes_on _ _ _ c.args.tasks (sym c.in-None.ensures)) c.in-Ok.ensures.rest
+    (takes_head _ _ _ c.args.tasks (sym c.in-None.ensures)) c.in-Ok.ensures.filters.1.client
+    c.in-Ok.ensures.requests c.in-Ok.ensures.alone c.in-Err-take_batch.ensures.takes)

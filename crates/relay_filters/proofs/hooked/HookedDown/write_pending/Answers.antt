@@ -1,13 +1,13 @@
 -- One write of the inner side: no filter was called.
-use Rattle.std.proofs.Common.{refl, sym, ◌∙◌}
-use Rattle.relay_filters.proofs.SideLemmas.{goes_on, writes_leave}
+use Rattle.std.proofs.Common.{[], refl, sym, append-nil, ◌∙◌}
+use Rattle.relay_filters.proofs.LentSide.{client_goes, past_of}
 use Rattle.relay_filters.proofs.hooked.HookedDown.write_pending.Goals as goal
 
 pub returns-clause-goes : goal.returns-clause-goes
 returns-clause-goes g c = λ s p h.
-    goes_on _ _ _ _ _ _ _ _ _ _ _ _ _ _ _ _ _ p _ p.put _ p.batched _ _ h
-    (λ low. (
-      sym (writes_leave _ _ c.write_pending-put.result
-          c.write_pending-put.ensures.writes) ∙ low,
-      refl,
-    )) refl refl refl refl (c.write_pending-put.ensures.goes s _ h.holds)
+    client_goes s _ _ _ _ c.args.self.now.side.inner _ _ _ _ c.args.self.now.side.session.seen _ _
+    _ _ _ _ _ c.args.self.now.side.stopped p _ p.put _ p.batched _ [] _ h
+    (sym c.is_lost.ensures ∙ c.if-is_lost.false)
+    c.write_pending-put.ensures.head refl refl refl refl (sym (append-nil p.closing))
+    (c.write_pending-put.ensures.goes s _ (past_of _ _ _ _
+    (sym c.is_lost.ensures ∙ c.if-is_lost.false) h.holds))

@@ -1,0 +1,422 @@
+-- A side whose client's session hooks are lent: what passed by its inner side, which reads and
+-- writes that session, and by the filters, which are shown it.
+use Rattle.std.proofs.Common.{◌≡◌, ℕ, Bool, true, false, ◌||◌, ◌&&◌, if◌then◌else◌, List, [], ◌∷◌, ◌++◌, Option, Some, None, Result, Ok, Err, append-nil, refl, sym, ap, subst, true≢false, ◌∙◌, IsSome, unwrap_or}
+use Rattle.std.specs.List.{list_any}
+use Rattle.relay_tasks.specs.Head.{RequestHead, new_request}
+use Rattle.relay_tasks.specs.declared.error.Error.{Error}
+use Rattle.relay_tasks.specs.declared.error.Fail.{Fail}
+use Rattle.relay_tasks.specs.declared.error.Fail.TheVariants as fail
+use Rattle.relay_tasks.specs.declared.log.LogEntry.{LogEntry}
+use Rattle.relay_tasks.specs.declared.task.HttpTask.{HttpTask}
+use Rattle.relay_links.specs.Link.{LinkState}
+use Rattle.relay_session.specs.Reading.{head_of}
+use Rattle.relay_session.specs.Response.{has_head}
+use Rattle.relay_session.specs.declared.session.HttpSession.{HttpSession}
+use Rattle.relay_core.specs.Past.{BatchRefused, DownGoes, DownPast, Origin, error_of_fail}
+use Rattle.relay_core.specs.Pipe.{is_failure}
+use Rattle.relay_core.specs.Piece.{put_of}
+use Rattle.relay_core.specs.declared.piece.Piece.{Piece}
+use Rattle.relay_modules.specs.Module.{ModuleCall}
+use Rattle.relay_modules.specs.declared.seen.Seen.{Seen}
+use Rattle.relay_hooks.specs.Session.{moment}
+use Rattle.relay_hooks.specs.Standing.{Standing, standing}
+use Rattle.relay_calls.specs.Log.{IsAllowed, Walk}
+use Rattle.relay_calls.proofs.LogLemmas.{Walk-append}
+use Rattle.relay_sides.specs.Client.{IsSide}
+use Rattle.relay_sides.specs.Lent.{SameButHead}
+use Rattle.relay_sides.specs.declared.client_side.ClientSide.{ClientSide}
+use Rattle.relay_sides.proofs.LentLemmas.{IsSide-lent}
+use Rattle.relay_filters.specs.Chain.{Refuses}
+use Rattle.relay_filters.specs.Request.{Filtered, Filters}
+use Rattle.relay_filters.specs.Response.{BatchPasses, BatchStops, Outcome}
+use Rattle.relay_filters.specs.Hooked.{BlamesOver, InnerPast, IsHooked, PastBy, PastOf, RefusesOver, inside, is_lost, refused_at_once, seen_by}
+use Rattle.relay_filters.proofs.MoveLemmas.{final_stays}
+use Rattle.relay_filters.proofs.OutcomeLemmas.{call_client}
+use Rattle.relay_filters.proofs.SideLemmas.{batch_goes, batch_refused, batch_stops, goes_on, reads_piece, stops_at}
+
+-- ---- a session that is lost, or not
+
+-- what passed over a session that is not lost
+pub past_of : (lost : Bool) (past : HttpSession → DownPast → Type 0) (c : HttpSession)
+    (p : DownPast) → lost ≡ false → PastOf lost past c p → past c p
+past_of false past c p known h = h
+past_of true past c p known h = absurd (true≢false known)
+
+of_past : (lost : Bool) (past : HttpSession → DownPast → Type 0) (c : HttpSession) (p : DownPast)
+    → lost ≡ false → past c p → PastOf lost past c p
+of_past false past c p known h = h
+of_past true past c p known h = absurd (true≢false known)
+
+-- a side that goes on is not lost
+pub not_lost : (st : Option Fail) → st ≡ None → is_lost st ≡ false
+not_lost st on = ap is_lost on
+
+-- memory was not wanted in a side that is not lost
+kept_memory : (st : Option Fail) → is_lost st ≡ false → st ≡ Some fail.OutOfMemory → ⊥
+kept_memory st known is = absurd (true≢false (sym (ap is_lost is) ∙ known))
+
+-- ---- an answer over another session
+
+-- what holds of each past holds of that of an answer
+goes_so : (holds holds' : DownPast → Type 0) (blames : DownPast → Error → Type 0)
+    (put batched closing : List HttpTask) (error : Option Error)
+    → ((q : DownPast) → holds q → holds' q) → DownGoes holds blames put batched closing error
+    → DownGoes holds' blames put batched closing error
+goes_so holds holds' blames put batched closing error so g = record {
+  past = g.past;
+  stands = so g.past g.stands;
+  is_put = g.is_put;
+  is_batched = g.is_batched;
+  is_closing = g.is_closing;
+  blamed = g.blamed;
+}
+
+refused_so : (holds holds' : DownPast → Type 0)
+    (refuses : DownPast → List HttpTask → Error → Type 0) (p : DownPast) (tasks : List HttpTask)
+    (why : Fail) → ((q : DownPast) → holds q → holds' q)
+    → BatchRefused holds refuses p tasks why → BatchRefused holds' refuses p tasks why
+refused_so holds holds' refuses p tasks why so g = record {
+  filtered = g.filtered;
+  left = g.left;
+  parts = g.parts;
+  past = g.past;
+  stands = so g.past g.stands;
+  is_put = g.is_put;
+  is_batched = g.is_batched;
+  is_closing = g.is_closing;
+  refused = g.refused;
+}
+
+-- ---- the session between two calls
+
+-- what a side's own calls leave of the client's session: the head, and a final head that was queued
+pub record MovesOn (c c' : HttpSession) : Type 0 where
+  pub head : head_of c'.reading ≡ head_of c.reading
+  pub final_head : has_head c.writing.place ≡ true → has_head c'.writing.place ≡ true
+
+-- the calls of hooks walk on to the session as it stands
+module _ (inner : DownPast → Type 0) (allows : Standing → LogEntry → Type 0) (method : List ℕ)
+    (seen : Seen) (c c' : HttpSession) (mark first : ℕ) (oh a ended u rf stood : Bool)
+    (st : Option Fail) (p : DownPast) (known : is_lost st ≡ false) (moves : MovesOn c c')
+    (h : IsHooked inner allows method (seen_by seen c) mark first oh a ended u rf stood st p) where
+  pub walks_to : Walk allows h.logged.from h.own (standing None false (moment (seen_by seen c')
+  mark))
+  walks_to =
+      let before = standing None false (moment (seen_by seen c) mark) in
+      let behind = standing None false (moment (seen_by seen c') mark) in
+      subst (λ (es : List LogEntry). Walk allows h.logged.from es behind) (append-nil h.own)
+      (Walk-append allows h.own [] h.logged.from before behind
+      (subst (λ (to : Standing). Walk allows h.logged.from h.own to)
+      (h.logged.at (kept_memory st known)) h.logged.walk)
+      (record {
+        mark = refl;
+        head = ap (λ (o : Option RequestHead). unwrap_or o (new_request [] [])) moves.head;
+        keepalive = refl;
+        final_head = moves.final_head;
+        upgraded = λ up. up;
+      }))
+
+  abbrev pub moved : IsHooked inner allows method (seen_by seen c') mark first oh a ended u rf stood
+      st p
+  moved = record {
+    came = h.came;
+    queued = h.queued;
+    holds = h.holds;
+    before = h.before;
+    own = h.own;
+    parts = h.parts;
+    began = h.began;
+    logged = record {
+      from = h.logged.from;
+      to = standing None false (moment (seen_by seen c') mark);
+      walk = walks_to;
+      at = λ kept. refl;
+    };
+    request = h.request;
+    is_of_head = h.is_of_head;
+    response = h.response;
+    head = λ on. subst (λ (o : Option RequestHead). IsSome o) (sym moves.head) (h.head on);
+    told = h.told;
+  }
+
+-- a side's own call leaves the session so
+pub moves_by : (s : Origin) (link link' : LinkState) (ahead ahead' : List ℕ)
+    (side side' : ClientSide) (p p' : DownPast) (more behind : List HttpTask)
+    → head_of side'.session.reading ≡ head_of side.session.reading
+    → p'.batched ≡ p.batched ++ more → p'.closing ≡ p.closing ++ behind
+    → PastBy s link ahead side side.session p → PastBy s link' ahead' side' side'.session p'
+    → MovesOn side.session side'.session
+moves_by s link link' ahead ahead' side side' p p' more behind head batched closing h h' = record {
+  head = head;
+  final_head = final_stays s p p' more behind link link' ahead ahead' side.session side'.session
+      side.told side'.told side.done side.finished side'.done side'.finished side.broken
+      side'.broken batched closing h h';
+}
+
+-- ---- the session behind a call of hooks
+
+-- the same side with another session
+abbrev pub Swapped : ClientSide → ClientSide → Type 0
+Swapped side side' = side' ≡ record side { session = side'.session }
+
+-- what passed before stands of the side that has the session again
+swapped : (s : Origin) (link : LinkState) (ahead : List ℕ) (side side' : ClientSide)
+    (c : HttpSession) (q : DownPast) → Swapped side side' → PastBy s link ahead side c q
+    → PastBy s link ahead side' c q
+swapped s link ahead side side' c q rest h =
+    subst (λ (x : ClientSide). PastBy s link ahead x c q) (sym rest) h
+
+pub lent_past : (s : Origin) (link : LinkState) (ahead : List ℕ) (side side' : ClientSide)
+    (q : DownPast) → Swapped side side' → SameButHead side.session side'.session
+    → PastBy s link ahead side side.session q → PastBy s link ahead side' side'.session q
+lent_past s link ahead side side' q rest same h =
+    swapped s link ahead side side' side'.session q rest
+    (IsSide-lent s q link ahead side.session side'.session side.told side.done side.finished
+    side.broken same h)
+
+-- where memory was wanted, what passed is that of the session before
+lost_past : (s : Origin) (link : LinkState) (ahead : List ℕ) (side side' : ClientSide)
+    (q : DownPast) → Swapped side side' → PastBy s link ahead side side.session q
+    → InnerPast (Some fail.OutOfMemory) s link ahead side' q
+lost_past s link ahead side side' q rest h =
+    (side.session, swapped s link ahead side side' side.session q rest h)
+
+-- ---- a call of the inner side alone
+
+-- no filter was called
+pub client_goes : (s : Origin) (link link' : LinkState) (ahead ahead' : List ℕ)
+    (side side' : ClientSide) (blames' : DownPast → Error → Type 0)
+    (allows : Standing → LogEntry → Type 0) (method : List ℕ) (seen : Seen) (mark first : ℕ)
+    (oh a ended rf stood : Bool) (st : Option Fail) (p : DownPast)
+    (put_in put batched_in batched closing behind : List HttpTask) (error : Option Error)
+    (h : IsHooked (InnerPast st s link ahead side) allows method (seen_by seen side.session) mark
+    first oh a ended false rf stood st p)
+    → is_lost st ≡ false → head_of side'.session.reading ≡ head_of side.session.reading
+    → put_in ≡ h.came → put ≡ p.put → batched_in ≡ h.queued → batched ≡ p.batched
+    → closing ≡ p.closing ++ behind
+    → DownGoes (PastBy s link' ahead' side' side'.session) blames' put_in batched_in closing error
+    → DownGoes (IsHooked (InnerPast st s link' ahead' side') allows method
+    (seen_by seen side'.session) mark first oh a ended false rf stood st)
+    (λ past e. BlamesOver (InnerPast st s link' ahead' side') blames' st past e) put batched closing
+    error
+client_goes s link link' ahead ahead' side side' blames' allows method seen mark first oh a ended rf
+    stood st p put_in put batched_in batched closing behind error h known head is same is' same'
+    closes g =
+    let moves = moves_by s link link' ahead ahead' side side' (inside p h.came h.queued) g.past []
+    behind head (g.is_batched ∙ is' ∙ sym (append-nil h.queued)) (g.is_closing ∙ closes)
+    (past_of (is_lost st) (PastBy s link ahead side) side.session (inside p h.came h.queued) known
+    h.holds) g.stands in
+    goes_on (InnerPast st s link ahead side) (InnerPast st s link' ahead' side') blames' allows
+    method (seen_by seen side'.session) mark first oh a ended ended false false rf stood st p put_in
+    put batched_in batched closing error
+    (moved (InnerPast st s link ahead side) allows method seen side.session side'.session mark first
+    oh a ended false rf stood st p known moves h)
+    (λ low. (refl, refl)) is same is' same'
+    (goes_so (PastBy s link' ahead' side' side'.session) (InnerPast st s link' ahead' side') blames'
+    put_in batched_in closing error
+    (λ q stands. of_past (is_lost st) (PastBy s link' ahead' side') side'.session q known stands) g)
+
+-- ---- a piece
+
+-- the inner side gave a piece, and hooks were lent the session behind that
+module _ (s : Origin) (link link' : LinkState) (ahead ahead' : List ℕ)
+    (side given lent : ClientSide) (blames' : DownPast → Error → Type 0)
+    (app : Standing → LogEntry → Type 0) (modules : ModuleCall → Type 0) (method : List ℕ)
+    (seen : Seen) (mark first : ℕ) (oh a ended rf stood : Bool) (st : Option Fail) (p : DownPast)
+    (piece : Piece) (seen' : Seen) (mark' : ℕ) (on : st ≡ None)
+    (h : IsHooked (InnerPast st s link ahead side) (IsAllowed app modules) method
+    (seen_by seen side.session) mark first oh a ended false rf stood st p)
+    (head : head_of given.session.reading ≡ head_of side.session.reading)
+    (rest : Swapped given lent)
+    (g : DownGoes (PastBy s link' ahead' given given.session) blames'
+    (h.came ++ put_of false piece) h.queued p.closing None) where
+  -- before the hooks were called
+  abbrev at_call : IsHooked (InnerPast st s link ahead side) (IsAllowed app modules) method
+      (seen_by seen given.session) mark first oh a ended false rf stood st p
+  at_call =
+      moved (InnerPast st s link ahead side) (IsAllowed app modules) method seen side.session
+      given.session mark first oh a ended false rf stood st p (not_lost st on)
+      (moves_by s link link' ahead ahead' side given (inside p h.came h.queued) g.past [] [] head
+      (g.is_batched ∙ sym (append-nil h.queued)) (g.is_closing ∙ sym (append-nil p.closing))
+      (past_of (is_lost st) (PastBy s link ahead side) side.session (inside p h.came h.queued)
+      (not_lost st on) h.holds) g.stands) h
+
+  -- it passed
+  pub lent_reads : (made : Piece)
+      → Filtered app ended piece made (seen_by seen given.session) mark
+      (seen_by seen' lent.session) mark'
+      → DownGoes (IsHooked (InnerPast st s link' ahead' lent) (IsAllowed app modules) method
+      (seen_by seen' lent.session) mark' first oh a (ended || made.upstream_end) false rf stood st)
+      (λ past e. BlamesOver (InnerPast st s link' ahead' lent) blames' st past e)
+      (p.put ++ put_of false made) p.batched p.closing None
+  lent_reads made f =
+      let same = call_client app _ _ (seen_by seen given.session) mark
+      (seen_by seen' lent.session) mark' _ f.call in
+      reads_piece (InnerPast st s link ahead side) (InnerPast st s link' ahead' lent) blames' app
+      modules method (seen_by seen given.session) mark first oh a ended false false rf stood st p
+      piece made (seen_by seen' lent.session) mark' on at_call refl f
+      (goes_so (PastBy s link' ahead' given given.session) (InnerPast st s link' ahead' lent)
+      blames' (h.came ++ put_of false piece) h.queued p.closing None
+      (λ q stands. of_past (is_lost st) (PastBy s link' ahead' lent) lent.session q
+      (not_lost st on) (lent_past s link' ahead' given lent q rest same stands)) g)
+
+  -- what passed inside stands behind a call that failed
+  fails_so : (why : Fail)
+      → Filters app ended piece (Err why) (seen_by seen given.session) mark
+      (seen_by seen' lent.session) mark'
+      → (q : DownPast) → PastBy s link' ahead' given given.session q
+      → InnerPast (Some why) s link' ahead' lent q
+  fails_so fail.OutOfMemory f q stands = lost_past s link' ahead' given lent q rest stands
+  fails_so (fail.Error error) f q stands =
+      lent_past s link' ahead' given lent q rest
+      (call_client app _ _ (seen_by seen given.session) mark (seen_by seen' lent.session) mark' _
+      f.call) stands
+
+  -- it was refused, or memory was wanted
+  pub lent_stops : (why : Fail)
+      → Filters app ended piece (Err why) (seen_by seen given.session) mark
+      (seen_by seen' lent.session) mark'
+      → DownGoes (IsHooked (InnerPast (Some why) s link' ahead' lent) (IsAllowed app modules)
+      method (seen_by seen' lent.session) mark' first oh a ended false rf stood (Some why))
+      (λ past e. BlamesOver (InnerPast (Some why) s link' ahead' lent) blames' (Some why) past e)
+      (p.put ++ []) p.batched p.closing (error_of_fail why)
+  lent_stops why f =
+      stops_at (InnerPast st s link ahead side) (InnerPast (Some why) s link' ahead' lent) blames'
+      app modules method (seen_by seen given.session) mark first oh a ended false false rf stood st
+      p piece why (p.put ++ []) (seen_by seen' lent.session) mark' on at_call refl
+      (append-nil p.put) f
+      (goes_so (PastBy s link' ahead' given given.session)
+      (InnerPast (Some why) s link' ahead' lent) blames' (h.came ++ put_of false piece) h.queued
+      p.closing None (fails_so why f) g)
+
+-- ---- a batch
+
+-- a side takes on where a batch is not refused at once
+pub takes_on : (st : Option Fail) (rf has : Bool) (tasks : List HttpTask)
+    → refused_at_once st rf has tasks ≡ None → st ≡ None
+takes_on None rf has tasks on = refl
+takes_on (Some why) rf has tasks on = cc
+
+-- and has a head
+pub takes_head : (st : Option Fail) (rf has : Bool) (tasks : List HttpTask)
+    → refused_at_once st rf has tasks ≡ None → has ≡ true
+takes_head (Some why) rf has tasks on = cc
+takes_head None true has tasks on = cc
+takes_head None false true tasks on = refl
+takes_head None false false tasks on = cc
+
+-- hooks were lent the session for a batch
+module _ (s : Origin) (link : LinkState) (ahead : List ℕ) (side lent : ClientSide)
+    (allows : Standing → LogEntry → Type 0) (method : List ℕ) (seen : Seen) (mark first : ℕ)
+    (oh a ended rf stood stand has : Bool) (st : Option Fail) (p : DownPast)
+    (tasks : List HttpTask) (seen' : Seen) (mark' : ℕ)
+    (on : refused_at_once st rf has tasks ≡ None)
+    (h : IsHooked (InnerPast st s link ahead side) allows method (seen_by seen side.session) mark
+    first oh a ended false rf stood st p) (rest : Swapped side lent) where
+  abbrev known : is_lost st ≡ false
+  known = not_lost st (takes_on st rf has tasks on)
+
+  -- what passed inside stands behind the filters
+  pub lent_holds : (made : List HttpTask)
+      → Outcome allows (λ es out. BatchPasses oh stand tasks es out) (BatchStops oh stand tasks)
+      (Refuses oh) (Ok made) (seen_by seen side.session) mark (seen_by seen' lent.session) mark'
+      → PastBy s link ahead lent lent.session (inside p h.came h.queued)
+  lent_holds made (es, adds, passes) =
+      lent_past s link ahead side lent (inside p h.came h.queued) rest adds.client
+      (past_of (is_lost st) (PastBy s link ahead side) side.session (inside p h.came h.queued) known
+      h.holds)
+
+  -- the inner side queued what they made
+  pub lent_batch : (took : ClientSide) (blames' : DownPast → Error → Type 0)
+      (made : List HttpTask)
+      → head_of took.session.reading ≡ head_of lent.session.reading
+      → (out : Outcome allows (λ es out. BatchPasses oh stand tasks es out)
+      (BatchStops oh stand tasks) (Refuses oh) (Ok made) (seen_by seen side.session) mark
+      (seen_by seen' lent.session) mark')
+      → DownGoes (PastBy s link ahead took took.session) blames' h.came (h.queued ++ made) p.closing
+      None
+      → DownGoes (IsHooked (InnerPast st s link ahead took) allows method
+      (seen_by seen' took.session) mark' first oh a ended false rf (stood && stand) st)
+      (λ past e. BlamesOver (InnerPast st s link ahead took) blames' st past e) p.put
+      (p.batched ++ tasks) p.closing None
+  lent_batch took blames' made head out g =
+      let moves = moves_by s link link ahead ahead lent took (inside p h.came h.queued) g.past made
+      [] head g.is_batched (g.is_closing ∙ sym (append-nil p.closing)) (lent_holds made out)
+      g.stands
+      in
+      goes_so
+      (IsHooked (InnerPast st s link ahead took) allows method (seen_by seen' lent.session) mark'
+      first oh a ended false rf (stood && stand) st)
+      (IsHooked (InnerPast st s link ahead took) allows method (seen_by seen' took.session) mark'
+      first oh a ended false rf (stood && stand) st)
+      (λ past e. BlamesOver (InnerPast st s link ahead took) blames' st past e) p.put
+      (p.batched ++ tasks) p.closing None
+      (λ q stands. moved (InnerPast st s link ahead took) allows method seen' lent.session
+      took.session mark' first oh a ended false rf (stood && stand) st q known moves stands)
+      (batch_goes (InnerPast st s link ahead side) (InnerPast st s link ahead took) blames' allows
+      method (seen_by seen side.session) mark first oh a ended ended false false rf stood stand st
+      has p tasks made (seen_by seen' lent.session) mark' on h (λ low. (refl, refl)) out
+      (goes_so (PastBy s link ahead took took.session) (InnerPast st s link ahead took) blames'
+      h.came (h.queued ++ made) p.closing None
+      (λ q stands. of_past (is_lost st) (PastBy s link ahead took) took.session q known stands) g))
+
+  -- it refused it
+  pub lent_refused : (took : ClientSide) (refuses' : DownPast → List HttpTask → Error → Type 0)
+      (made : List HttpTask) (why : Fail)
+      → head_of took.session.reading ≡ head_of lent.session.reading
+      → list_any is_failure made ≡ list_any is_failure tasks
+      → (out : Outcome allows (λ es out. BatchPasses oh stand tasks es out)
+      (BatchStops oh stand tasks) (Refuses oh) (Ok made) (seen_by seen side.session) mark
+      (seen_by seen' lent.session) mark')
+      → BatchRefused (PastBy s link ahead took took.session) refuses' (inside p h.came h.queued)
+      made why
+      → BatchRefused (IsHooked (InnerPast st s link ahead took) allows method
+      (seen_by seen' took.session) mark' first oh a ended false true (stood && stand) st)
+      (λ past left e. RefusesOver (InnerPast st s link ahead took) refuses' oh stand st seen'.log
+      past left e) p tasks why
+  lent_refused took refuses' made why head failures out g =
+      let moves = moves_by s link link ahead ahead lent took (inside p h.came h.queued) g.past
+      g.filtered [] head g.is_batched (g.is_closing ∙ sym (append-nil p.closing))
+      (lent_holds made out) g.stands in
+      refused_so
+      (IsHooked (InnerPast st s link ahead took) allows method (seen_by seen' lent.session) mark'
+      first oh a ended false true (stood && stand) st)
+      (IsHooked (InnerPast st s link ahead took) allows method (seen_by seen' took.session) mark'
+      first oh a ended false true (stood && stand) st)
+      (λ past left e. RefusesOver (InnerPast st s link ahead took) refuses' oh stand st seen'.log
+      past left e) p tasks why
+      (λ q stands. moved (InnerPast st s link ahead took) allows method seen' lent.session
+      took.session mark' first oh a ended false true (stood && stand) st q known moves stands)
+      (batch_refused (InnerPast st s link ahead side) (InnerPast st s link ahead took) refuses'
+      allows method (seen_by seen side.session) mark first oh a ended false false rf stood stand st
+      has p tasks made why (seen_by seen' lent.session) mark' on h (λ low. refl) failures out
+      (refused_so (PastBy s link ahead took took.session) (InnerPast st s link ahead took) refuses'
+      (inside p h.came h.queued) made why
+      (λ q stands. of_past (is_lost st) (PastBy s link ahead took) took.session q known stands) g))
+
+  -- what passed inside stands behind a batch that was refused
+  batch_fails : (why : Fail)
+      → Outcome {Y = List HttpTask} allows (λ es out. BatchPasses oh stand tasks es out)
+      (BatchStops oh stand tasks) (Refuses oh) (Err why) (seen_by seen side.session) mark
+      (seen_by seen' lent.session) mark'
+      → (q : DownPast) → PastBy s link ahead side side.session q
+      → InnerPast (Some why) s link ahead lent q
+  batch_fails fail.OutOfMemory out q stands = lost_past s link ahead side lent q rest stands
+  batch_fails (fail.Error error) (es, adds, fed, refused) q stands =
+      lent_past s link ahead side lent q rest adds.client stands
+
+  -- a filter refused it, or memory was wanted
+  pub lent_fails : (refuses : DownPast → List HttpTask → Error → Type 0) (why : Fail)
+      → Outcome {Y = List HttpTask} allows (λ es out. BatchPasses oh stand tasks es out)
+      (BatchStops oh stand tasks) (Refuses oh) (Err why) (seen_by seen side.session) mark
+      (seen_by seen' lent.session) mark'
+      → BatchRefused (IsHooked (InnerPast (Some why) s link ahead lent) allows method
+      (seen_by seen' lent.session) mark' first oh a ended false rf stood (Some why))
+      (λ past left e. RefusesOver (InnerPast (Some why) s link ahead lent) refuses oh stand
+      (Some why) seen'.log past left e) p tasks why
+  lent_fails refuses why out =
+      batch_stops (InnerPast st s link ahead side) (InnerPast (Some why) s link ahead lent) refuses
+      allows method (seen_by seen side.session) mark first oh a ended false rf stood stand st has p
+      tasks why (seen_by seen' lent.session) mark' on
+      (λ q stands. batch_fails why out q
+      (past_of (is_lost st) (PastBy s link ahead side) side.session q known stands)) h out
