@@ -1,0 +1,24 @@
+//! What passed in an exchange behind an application's filters, as one order: laws over the pasts of
+//! both sides alone, which no turn proves.
+#![tactic(auto)]
+
+ghost use Rattle.relay_calls.specs.Log.{IsAllowed};
+ghost use Rattle.relay_filters.specs.Response.{SomeAllow};
+ghost use Rattle.relay_hooked.specs.Laws.{IsAttemptSoFar, IsInOrderSoFar};
+
+use relay_hooks::ProxyHttp;
+use relay_links::ByteLink;
+
+/// What passed between a client's side behind the filters of that application and a peer's side is
+/// an attempt: each side was given the front of what the other put.
+pub fn attempt_so_far<SV: ProxyHttp, L: ByteLink>(_app: &SV)
+    ensures { IsAttemptSoFar L.state L.start
+        (IsAllowed (SV.allows _app.now) (SomeAllow SV.Modules.allows)) }
+{}
+
+/// And it is in order, by the bytes that passed and by the calls of the filters, where the client's
+/// writer refuses nothing that they made.
+pub fn order_so_far<SV: ProxyHttp, L: ByteLink>(_app: &SV)
+    ensures { IsInOrderSoFar L.state L.start
+        (IsAllowed (SV.allows _app.now) (SomeAllow SV.Modules.allows)) }
+{}
