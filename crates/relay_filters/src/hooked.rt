@@ -324,8 +324,8 @@ impl<'a, SV: ProxyHttp, C, D: Down<C>> Down<C> for Hooked<'a, SV, D> {
         BlamesOver (D.past f.inner client s) (D.blames f.inner client s) f.stopped p e };
 
     ghost refuses = { λ f client s p left e.
-        RefusesOver (D.past f.inner client s) (D.refuses f.inner client s) f.of_head
-        (is_some f.session.modules) f.stopped f.session.seen.log p left e };
+        RefusesOver (D.past f.inner client s) (D.refuses f.inner client s) f.of_head f.stood
+        (is_some f.session.modules) f.refused f.stopped f.first f.session.seen.log p left e };
 
     ghost cannot_end = { λ f client s p e.
         BlamesOver (D.past f.inner client s) (D.cannot_end f.inner client s) f.stopped p e };
