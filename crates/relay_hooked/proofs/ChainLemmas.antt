@@ -29,7 +29,7 @@ any_kept test chain keeps es (x ∷ xs) (y ∷ ys) (own, rest, is, c, pass) =
 -- ---- an end
 
 -- the filters of the application leave whether a task is the end
-task_end : (of_head : Bool) (x : HttpTask) (es : List LogEntry) (y : HttpTask)
+pub task_end : (of_head : Bool) (x : HttpTask) (es : List LogEntry) (y : HttpTask)
     → TaskChain of_head x es y → is_end y ≡ is_end x
 task_end of_head (task.Header head end) es y (last, h, is) = ap is_end is
 task_end of_head (task.Body bytes end) es y (last, b, is) = ap is_end is
@@ -46,7 +46,7 @@ answer_ends None other ends = ends
 answer_ends (Some bytes) other ends = refl
 
 -- so do those of the modules
-module_end : (x : HttpTask) (es : List LogEntry) (y : HttpTask) → ModuleChain x es y
+pub module_end : (x : HttpTask) (es : List LogEntry) (y : HttpTask) → ModuleChain x es y
     → is_end y ≡ is_end x
 module_end (task.Header head end) es y (last, c, passes, is) = ap is_end is
 module_end (task.Body bytes end) es y (last, c, is) = ap is_end is
@@ -90,7 +90,7 @@ module_failure (task.Failed error) es y (none, is) = ap is_failure is
 -- ---- the filters
 
 -- what the modules' filters keep, is kept where a task may go on as it is too
-passed_keeps : (test : HttpTask → Bool)
+pub passed_keeps : (test : HttpTask → Bool)
     → ((x : HttpTask) (es : List LogEntry) (y : HttpTask) → ModuleChain x es y
     → test y ≡ test x) → (stood : Bool) (x : HttpTask) (es : List LogEntry) (y : HttpTask)
     → PassedModules stood x es y → test y ≡ test x

@@ -2,9 +2,11 @@
 --
 --   hooked_half   from IsHooked over the client's side: the client's half
 --   peer_half     from IsPeerSide: the upstream's half
+--   own_blames    the peer's side answers for an error by the head that is sent
 use Rattle.std.proofs.Common.{◌≡◌, ℕ, Bool, true, false, List, [], ◌∷◌, ◌++◌, length, drop, refl, sym, ap, subst, ◌∙◌, append-nil, arith, inl, inr, Some, None}
 use Rattle.std.specs.List.{list_any}
 use Rattle.std.proofs.Math.Seq.{drop-append_seam}
+use Rattle.relay_tasks.specs.declared.error.Error.{Error}
 use Rattle.relay_tasks.specs.declared.log.LogEntry.{LogEntry}
 use Rattle.relay_tasks.specs.declared.task.HttpTask.{HttpTask}
 use Rattle.relay_tasks.specs.declared.task.HttpTask.TheVariants as task
@@ -14,7 +16,7 @@ use Rattle.relay_links.specs.Link.{LinkState, LinkStart}
 use Rattle.relay_peer.specs.RequestWriting.{sent_wire}
 use Rattle.relay_peer.specs.Body.{IsFrontOf, sent_as}
 use Rattle.relay_peer.specs.Body as body
-use Rattle.relay_peer.specs.Peer.{AreTasks, IsPeerSide, told_of}
+use Rattle.relay_peer.specs.Peer.{AreTasks, IsPeerSide, PeerBlames, told_of}
 use Rattle.relay_peer.specs.declared.peer_side.PeerSide.{PeerSide}
 use Rattle.relay_peer.proofs.FrontLemmas.{front_then}
 use Rattle.relay_peer.proofs.TaskLemmas.{ended_whole}
@@ -34,12 +36,13 @@ use Rattle.relay_filters.specs.Hooked.{TakesOn, inside}
 use Rattle.relay_filters.specs.Request as request
 use Rattle.relay_filters.specs.Request.{PassesRequest}
 use Rattle.relay_filters.specs.Response.{MakesOf}
+use Rattle.relay_attempt.specs.Exchange.{DownHolds}
 use Rattle.relay_attempt.proofs.OrderLemmas.{answers_own, front_own, own_request, pieces_said}
 use Rattle.relay_attempt.proofs.ToldLemmas.{given_body, given_final, given_informed}
 use Rattle.relay_hooked.specs.Attempt.{HookedHalf, PeerHalf}
 use Rattle.relay_hooked.specs.Calls.{calls_behind}
 use Rattle.relay_hooked.specs.Order.{AreSaid}
-use Rattle.relay_hooked.specs.Sides.{Behind, HookedHolds, filtering}
+use Rattle.relay_hooked.specs.Sides.{Behind, HookedHolds, PeerHolds, PeerSideBlames, filtering}
 
 -- ---- the body that came, as one piece
 
@@ -156,50 +159,63 @@ module _
       is_ended = r.is_ended;
     }
 
--- what the side behind filters holds is the client's half
-abbrev pub hooked_half : (allows : Standing → LogEntry → Type 0) (link : LinkState)
-    (ahead : List ℕ) (s : Origin) (b : Behind) (p : DownPast)
-    → HookedHolds allows link ahead s b p
-    → HookedHalf (filtering b) s link b.ended b.side.done p
-hooked_half allows link ahead s b p h =
-    let inner = inside p h.came h.queued in
-    let session = b.side.session in
-    let c = h.holds.passed.client in
-    let own = own_calls b.first h.before h.own b.seen.log h.parts h.began in
-    record {
-      came = c.came;
-      written = c.written;
-      faults = c.faults;
-      tells = c.tells;
-      framing = c.framing;
-      len = c.len;
-      asks = own_request s inner link ahead session c;
-      pieces = body_piece s p h.came h.queued link ahead session c;
-      are_pieces =
-          pieces_said s (inside p (body_piece s p h.came h.queued link ahead session c) h.queued)
-          link ahead session (with_one s p h.came h.queued link ahead session c)
-          (one_last c.body (is_body_done session.reading));
-      passed =
-          subst (λ (es : List LogEntry).
-          PassesRequest b.at_first b.ended (requests_in es) (b.stopped ≡ None)
-          (body_piece s p h.came h.queued link ahead session c) p.put) own
-          (passes_one s p h.came h.queued link ahead session c b.at_first b.ended
-          (requests_in h.own) (b.stopped ≡ None) p.put (h.request refl));
-      queued = h.queued;
-      makes =
-          subst (λ (es : List LogEntry).
-          MakesOf (is_head_request s.head.method) b.stood es (TakesOn b.stopped b.refused) p.batched
-          h.queued) own
-          (subst (λ (of_head : Bool).
-          MakesOf of_head b.stood h.own (TakesOn b.stopped b.refused) p.batched h.queued)
-          h.is_of_head h.response);
-      plain = h.holds.passed.plain;
-      plain_end = h.holds.passed.plain_end;
-      over = λ is.
-          subst (λ (r : Request). is_over (wire r place.NoHead h.queued).place ≡ true)
-          (answers_own s inner link ahead session c) (h.holds.passed.over is);
-      is_written = front_own s inner link ahead session c;
-    }
+-- what the side behind filters holds, of which these tasks were queued that the filters made by its
+-- calls, is the client's half
+module _
+    (allows : Standing → LogEntry → Type 0) (link : LinkState) (ahead : List ℕ) (s : Origin)
+    (b : Behind) (p : DownPast) (h : HookedHolds allows link ahead s b p)
+  where
+    -- the half, by tasks with which the client's side holds too
+    abbrev pub half_with : (came queued : List HttpTask)
+        → DownHolds link ahead b.side s (inside p came queued) → (before own : List LogEntry)
+        → b.seen.log ≡ before ++ own → length before ≡ b.first
+        → MakesOf b.of_head b.stood own (TakesOn b.stopped b.refused) p.batched queued
+        → HookedHalf (filtering b) s link b.ended b.side.done p
+    half_with came queued holds before own parts began makes =
+        let inner = inside p came queued in
+        let session = b.side.session in
+        let c = h.holds.passed.client in
+        let d = holds.passed.client in
+        record {
+          came = c.came;
+          written = c.written;
+          faults = c.faults;
+          tells = c.tells;
+          framing = c.framing;
+          len = c.len;
+          asks = own_request s (inside p h.came h.queued) link ahead session c;
+          pieces = body_piece s p h.came h.queued link ahead session c;
+          are_pieces =
+              pieces_said s
+              (inside p (body_piece s p h.came h.queued link ahead session c) h.queued) link ahead
+              session (with_one s p h.came h.queued link ahead session c)
+              (one_last c.body (is_body_done session.reading));
+          passed =
+              subst (λ (es : List LogEntry).
+              PassesRequest b.at_first b.ended (requests_in es) (b.stopped ≡ None)
+              (body_piece s p h.came h.queued link ahead session c) p.put)
+              (own_calls b.first h.before h.own b.seen.log h.parts h.began)
+              (passes_one s p h.came h.queued link ahead session c b.at_first b.ended
+              (requests_in h.own) (b.stopped ≡ None) p.put (h.request refl));
+          queued = queued;
+          makes =
+              subst (λ (es : List LogEntry).
+              MakesOf (is_head_request s.head.method) b.stood es (TakesOn b.stopped b.refused)
+              p.batched queued) (own_calls b.first before own b.seen.log parts began)
+              (subst (λ (of_head : Bool).
+              MakesOf of_head b.stood own (TakesOn b.stopped b.refused) p.batched queued)
+              h.is_of_head makes);
+          plain = holds.passed.plain;
+          plain_end = holds.passed.plain_end;
+          over = λ is.
+              subst (λ (r : Request). is_over (wire r place.NoHead queued).place ≡ true)
+              (answers_own s inner link ahead session d) (holds.passed.over is);
+          is_written = front_own s inner link ahead session d;
+        }
+
+    -- the half, by the tasks that it names
+    abbrev pub hooked_half : HookedHalf (filtering b) s link b.ended b.side.done p
+    hooked_half = half_with h.came h.queued h.holds h.before h.own h.parts h.began h.response
 
 -- ---- the upstream's half
 
@@ -269,3 +285,20 @@ module _
       headed = headed;
       is_sent = sent_front;
     }
+
+-- ---- the peer's side
+
+-- one head
+same_head : (a b : RequestHead) → Some a ≡ Some b → a ≡ b
+same_head a b same = cc
+
+-- the peer's side answers for the error, by the head that is sent
+pub own_blames : {L : Type 0} (state : L → LinkState) (start_at : L → LinkStart) (s : Origin)
+    (up : PeerSide L) (q : UpPast) → PeerHolds state start_at s up q → (e : Error)
+    → PeerSideBlames state start_at s up q e
+    → PeerBlames (start_at up.client.link) (state up.client.link) s.sent s.asked q e
+own_blames state start_at s up q h e blames =
+    let u = h.peer in
+    subst (λ (a : RequestHead).
+    PeerBlames (start_at up.client.link) (state up.client.link) a s.asked q e)
+    (same_head blames.0 u.head (sym blames.1 ∙ u.is_head) ∙ u.own) blames.2

@@ -3,19 +3,19 @@
 --   attempt_so_far   from SoFar: an attempt between both halves
 --   order_of         from such an attempt: IsInOrder, whose pieces, taken, read, batched and closing
 --                    are those of the pasts, by computing
---   order_cut        the same, where the last of what the filters made was cut
+--   order_by         from SoFar and a half: the order
 --   order_so_far     so the order, from SoFar
-use Rattle.std.proofs.Common.{◌≡◌, ℕ, Bool, true, false, ◌⊎◌, List, [], ◌∷◌, ◌++◌, refl, sym, ap, subst, ◌∙◌, append-nil, inl, inr, Some}
+use Rattle.std.proofs.Common.{◌≡◌, ℕ, Bool, true, false, ◌⊎◌, List, [], ◌++◌, refl, sym, ◌∙◌, inl, inr, Option, None}
 use Rattle.std.specs.List.{list_any}
 use Rattle.relay_tasks.specs.declared.log.LogEntry.{LogEntry}
-use Rattle.relay_tasks.specs.declared.task.HttpTask.{HttpTask}
+use Rattle.relay_tasks.specs.declared.error.Error.{Error}
 use Rattle.relay_tasks.specs.Task.{is_end}
 use Rattle.relay_links.specs.Link.{LinkState, LinkStart}
 use Rattle.relay_peer.specs.Body.{IsFrontOf}
 use Rattle.relay_peer.specs.declared.peer_side.PeerSide.{PeerSide}
 use Rattle.relay_session.specs.Asked.{request_of}
 use Rattle.relay_session.specs.Response.{is_over}
-use Rattle.relay_session.specs.TaskWire.{wire}
+use Rattle.relay_session.specs.TaskWire.{first_refusal, wire}
 use Rattle.relay_session.specs.declared.task_text.Place.TheVariants as place
 use Rattle.relay_core.specs.Down.{DownState}
 use Rattle.relay_core.specs.Past.{Origin, DownPast, UpPast}
@@ -25,10 +25,8 @@ use Rattle.relay_hooks.specs.Standing.{Standing}
 use Rattle.relay_sides.specs.Client.{AllPass}
 use Rattle.relay_sides.specs.Filtered.{is_head_request}
 use Rattle.relay_filters.specs.Hooked.{TakesOn}
-use Rattle.relay_filters.specs.Response.{MakesOf}
 use Rattle.relay_attempt.specs.Attempt.{IsAttempt}
-use Rattle.relay_attempt.specs.Order.{and_cut}
-use Rattle.relay_attempt.proofs.AttemptLemmas.{attempt_of, batches, with_halves}
+use Rattle.relay_attempt.proofs.AttemptLemmas.{attempt_of, batches}
 use Rattle.relay_hooked.specs.Attempt.{HookedHalf, PeerHalf}
 use Rattle.relay_hooked.specs.Calls.{Filtering}
 use Rattle.relay_hooked.specs.Laws.{GoesSoFar, passed_by}
@@ -72,10 +70,11 @@ module _
       | inr (inr done) ↦ inr (inr (a.is_down.over done))
     ]
 
-    -- so what passed is in order
-    abbrev pub order_of : AllPass s (a.is_down.queued ++ a.p.closing)
-        → IsInOrder f s (passed_by a.p a.q) link.ended
-    order_of passes = record {
+    -- so what passed is in order, by the first refusal of what was queued
+    abbrev pub order_of : (refused : Option Error)
+        → first_refusal (request_of s.head) place.NoHead (a.is_down.queued ++ a.p.closing) ≡ refused
+        → IsInOrderWith refused f s (passed_by a.p a.q) link.ended
+    order_of refused passes = record {
       asks = record {
         framing = a.is_down.framing;
         len = a.is_down.len;
@@ -102,55 +101,6 @@ module _
       written = a.is_down.is_written;
     }
 
-    -- the task that was cut is the last of those that the filters made, and none of those before it
-    -- is refused
-    pub record IsCut (front : List HttpTask) (at : HttpTask) : Type 0 where
-      pub queued : a.is_down.queued ≡ front ++ at ∷ []
-      pub unasked : a.p.closing ≡ []
-      pub passes : AllPass s front
-
-    -- what was queued, with that task last
-    pub cut_queued : (front : List HttpTask) (at : HttpTask) → IsCut front at
-        → a.is_down.queued ++ a.p.closing ≡ and_cut (front ++ []) (Some at)
-    cut_queued front at cut =
-        ap (λ (l : List HttpTask). a.is_down.queued ++ l) cut.unasked
-        ∙ append-nil a.is_down.queued ∙ cut.queued
-        ∙ ap (λ (l : List HttpTask). l ++ at ∷ []) (sym (append-nil front))
-
-    -- what passed is in order then too
-    abbrev pub order_cut : (front : List HttpTask) (at : HttpTask) → IsCut front at
-        → IsInOrderWith (Some at) f s (passed_by a.p a.q) link.ended
-    order_cut front at cut = record {
-      asks = record {
-        framing = a.is_down.framing;
-        len = a.is_down.len;
-        has = a.is_down.asks;
-      };
-      came = a.is_down.pieces;
-      are_came = a.is_down.are_pieces;
-      ended = ended;
-      pieces = a.p.put;
-      passed = a.is_down.passed;
-      ends_last = a.ends_last plain;
-      taken = a.q.taken;
-      first_taken = a.requests;
-      sent = a.is_up.is_sent;
-      read = a.q.read;
-      are_said = a.is_up.are_said;
-      batched = a.p.batched;
-      first_batched = first_batched;
-      queued = front;
-      makes = subst (λ (l : List HttpTask).
-          MakesOf (is_head_request s.head.method) f.stood f.calls (TakesOn f.stopped f.refused)
-          a.p.batched l) cut.queued a.is_down.makes;
-      closing = [];
-      passes = subst (λ (l : List HttpTask). AllPass s l) (sym (append-nil front)) cut.passes;
-      closes_late = inl refl;
-      written = subst (λ (l : List HttpTask).
-          IsFrontOf a.p.written (wire (request_of s.head) place.NoHead l).text)
-          (cut_queued front at cut) a.is_down.is_written;
-    }
-
 -- ---- so far
 
 module _ {L : Type 0} (state : L → LinkState) (start_at : L → LinkStart)
@@ -158,22 +108,43 @@ module _ {L : Type 0} (state : L → LinkState) (start_at : L → LinkStart)
     (b : Behind) (up : PeerSide L) (duplex : Duplex) (p : DownPast) (q : UpPast)
     (so_far : GoesSoFar state start_at allows link ahead s b up duplex p q)
   where
-    -- what passed between a client behind filters and a peer is an attempt
+    -- what passed between a client behind filters and a peer is an attempt, by the client's half
+    abbrev pub attempt_by : HookedHalf (filtering b) s link b.ended b.side.done p
+        → IsAttempt (HookedHalf (filtering b) s link b.ended b.side.done)
+        (PeerHalf s (start_at up.client.link) (state up.client.link)) (hooked_state b)
+    attempt_by half =
+        let a = attempt_of (HookedHolds allows link ahead s b) (PeerHolds state start_at s up)
+        (PeerSideBlames state start_at s up) (hooked_core duplex b up) p q so_far in
+        record {
+          p = p;
+          q = q;
+          is_down = half;
+          is_up = peer_half s (start_at up.client.link) (state up.client.link) up q so_far.up;
+          requests = a.requests;
+          given = a.given;
+          refused = a.refused;
+          batched = a.batched;
+          responses = a.responses;
+          ends_last = a.ends_last;
+          asked = a.asked;
+        }
+
+    -- it is an attempt by the half that its side names
     abbrev pub attempt_so_far :
         IsAttempt (HookedHalf (filtering b) s link b.ended b.side.done)
         (PeerHalf s (start_at up.client.link) (state up.client.link)) (hooked_state b)
-    attempt_so_far =
-        with_halves (HookedHolds allows link ahead s b)
-        (HookedHalf (filtering b) s link b.ended b.side.done) (PeerHolds state start_at s up)
-        (PeerHalf s (start_at up.client.link) (state up.client.link)) (hooked_state b)
-        (λ r h. hooked_half allows link ahead s b r h)
-        (λ r h. peer_half s (start_at up.client.link) (state up.client.link) up r h)
-        (attempt_of (HookedHolds allows link ahead s b) (PeerHolds state start_at s up)
-        (PeerSideBlames state start_at s up) (hooked_core duplex b up) p q so_far)
+    attempt_so_far = attempt_by (hooked_half allows link ahead s b p so_far.down)
+
+    -- it is in order, by the client's half and the first refusal of what was queued
+    abbrev pub order_by : (half : HookedHalf (filtering b) s link b.ended b.side.done p)
+        → (refused : Option Error)
+        → first_refusal (request_of s.head) place.NoHead (half.queued ++ p.closing) ≡ refused
+        → IsInOrderWith refused (filtering b) s (passed_by p q) (state up.client.link).ended
+    order_by half refused passes =
+        order_of (filtering b) s link (state up.client.link) (start_at up.client.link) b.ended
+        (hooked_state b) refl (attempt_by half) refused passes
 
     -- so it is in order, where none of what the filters made is refused
     abbrev pub order_so_far : AllPass s (so_far.down.queued ++ p.closing)
         → IsInOrder (filtering b) s (passed_by p q) (state up.client.link).ended
-    order_so_far passes =
-        order_of (filtering b) s link (state up.client.link) (start_at up.client.link) b.ended
-        (hooked_state b) refl attempt_so_far passes
+    order_so_far passes = order_by (hooked_half allows link ahead s b p so_far.down) None passes

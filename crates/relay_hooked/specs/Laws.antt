@@ -1,18 +1,21 @@
 -- What each exchange behind filters keeps, whatever passed: laws over the pasts of both sides.
-use Rattle.std.specs.Prelude.{ℕ, List, ◌++◌}
+use Rattle.std.specs.Prelude.{ℕ, List, ◌++◌, ◌⊎◌}
+use Rattle.relay_tasks.specs.declared.error.Error.{Error}
 use Rattle.relay_tasks.specs.declared.log.LogEntry.{LogEntry}
 use Rattle.relay_links.specs.Link.{LinkState, LinkStart}
 use Rattle.relay_hooks.specs.Standing.{Standing}
+use Rattle.relay_peer.specs.H1Client.{may_keep_client}
+use Rattle.relay_session.specs.Reading.{is_body_done}
 use Rattle.relay_peer.specs.declared.peer_side.PeerSide.{PeerSide}
-use Rattle.relay_core.specs.Moves.{SoFar}
+use Rattle.relay_core.specs.Moves.{Finishes, HasReason, SoFar}
 use Rattle.relay_core.specs.Past.{Origin, DownPast, UpPast}
 use Rattle.relay_core.specs.declared.duplex.Duplex.{Duplex}
 use Rattle.relay_sides.specs.Client.{AllPass}
 use Rattle.relay_attempt.specs.Attempt.{IsAttempt}
 use Rattle.relay_attempt.specs.Passed.{Passed}
 use Rattle.relay_hooked.specs.Attempt.{HookedHalf, PeerHalf}
-use Rattle.relay_hooked.specs.Order.{IsInOrder}
-use Rattle.relay_hooked.specs.Sides.{Behind, HookedHolds, PeerHolds, PeerSideBlames, filtering, hooked_core, hooked_state}
+use Rattle.relay_hooked.specs.Order.{EndsEarly, FailsFor, IsInOrder, IsRelayed, Leaves}
+use Rattle.relay_hooked.specs.Sides.{Behind, HookedBlames, HookedCannotEnd, HookedHolds, HookedRefuses, PeerHolds, PeerSideBlames, TellsAlone, filtering, hooked_core, hooked_state}
 
 -- what passed, by the pasts of both sides
 abbrev pub passed_by : DownPast → UpPast → Passed
@@ -42,3 +45,28 @@ module _ {L : Type 0} (state : L → LinkState) (start_at : L → LinkStart)
       → (h : GoesSoFar link ahead s b up duplex p q)
       → AllPass s (h.down.queued ++ p.closing)
       → IsInOrder (filtering b) s (passed_by p q) (state up.client.link).ended
+
+  -- what failed with an error has its cause in what passed, where the client's side told no other
+  abbrev pub IsCaused : Type 0
+  IsCaused = (link : LinkState) (ahead : List ℕ) (s : Origin) (b : Behind) (up : PeerSide L)
+      (duplex : Duplex) (p : DownPast) (q : UpPast) (e : Error)
+      → GoesSoFar link ahead s b up duplex p q → TellsAlone b e
+      → HasReason (HookedBlames link ahead s b) (HookedRefuses link ahead s b)
+      (HookedCannotEnd link ahead s b) (PeerSideBlames state start_at s up) (hooked_state b) p q e
+      → FailsFor (filtering b) s (passed_by p q) link (state up.client.link)
+      (start_at up.client.link) e
+
+  -- what finished was relayed, or over towards the client early; and what that leaves
+  abbrev pub IsFinishing : Type 0
+  IsFinishing = (link : LinkState) (ahead : List ℕ) (s : Origin) (b : Behind) (up : PeerSide L)
+      (duplex : Duplex) (p : DownPast) (q : UpPast)
+      → (h : GoesSoFar link ahead s b up duplex p q) → AllPass s (h.down.queued ++ p.closing)
+      → Finishes (hooked_core duplex b up) p q
+      → ((r : IsRelayed (filtering b) s (passed_by p q) (state up.client.link)
+      (start_at up.client.link))
+      × Leaves (filtering b) s (passed_by p q) (state up.client.link) (start_at up.client.link)
+      r.order ahead (is_body_done b.side.session.reading) (may_keep_client up.client))
+      ⊎ ((r : EndsEarly (filtering b) s (passed_by p q) (state up.client.link)
+      (start_at up.client.link))
+      × Leaves (filtering b) s (passed_by p q) (state up.client.link) (start_at up.client.link)
+      r.order ahead (is_body_done b.side.session.reading) (may_keep_client up.client))

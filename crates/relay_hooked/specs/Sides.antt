@@ -1,5 +1,5 @@
 -- Both sides of an exchange behind filters, by what a struct of it would hold.
-use Rattle.std.specs.Prelude.{◌≡◌, ◌⊎◌, ℕ, Bool, false, List, Option, Some}
+use Rattle.std.specs.Prelude.{◌≡◌, ◌⊎◌, ℕ, Bool, false, List, Option, Some, None}
 use Rattle.relay_tasks.specs.declared.error.Error.{Error}
 use Rattle.relay_tasks.specs.declared.error.Fail.{Fail}
 use Rattle.relay_tasks.specs.declared.log.LogEntry.{LogEntry}
@@ -63,6 +63,7 @@ module _ (allows : Standing → LogEntry → Type 0) (link : LinkState) (ahead :
       IsHooked (DownHolds link ahead b.side s) allows s.head.method b.seen b.mark b.first b.of_head
       b.at_first b.ended false b.refused b.stood b.stopped p
 
+module _ (link : LinkState) (ahead : List ℕ) (s : Origin) (b : Behind) where
   -- it answers for the error
   abbrev pub HookedBlames : DownPast → Error → Type 0
   HookedBlames p e =
@@ -72,14 +73,20 @@ module _ (allows : Standing → LogEntry → Type 0) (link : LinkState) (ahead :
   abbrev pub HookedRefuses : DownPast → List HttpTask → Error → Type 0
   HookedRefuses p left e =
       RefusesOver (DownHolds link ahead b.side s)
-      (λ r tasks why. ClientRefuses s r link b.side.told tasks why) b.of_head b.stand b.stopped
-      b.seen.log p left e
+      (λ r tasks why. ClientRefuses s r link b.side.told tasks why) b.of_head b.stood b.stand
+      b.refused b.stopped b.first b.seen.log p left e
 
   -- it cannot end the response, with the error
   abbrev pub HookedCannotEnd : DownPast → Error → Type 0
   HookedCannotEnd p e =
       BlamesOver (DownHolds link ahead b.side s)
       (λ r why. ClientBlames s r link why ⊎ CannotEnd s r b.side.told why) b.stopped p e
+
+-- the client's side told no error; or this one alone, and no filter stopped the side over it
+abbrev pub TellsAlone : Behind → Error → Type 0
+TellsAlone b e =
+    (b.side.told.errors ≡ 0)
+    ⊎ ((b.side.told.errors ≡ 1) × (b.side.told.last ≡ Some e) × (b.stopped ≡ None))
 
 module _ {L : Type 0} (state : L → LinkState) (start_at : L → LinkStart) (s : Origin)
     (up : PeerSide L) where

@@ -4,7 +4,7 @@
 
 ghost use Rattle.relay_calls.specs.Log.{IsAllowed};
 ghost use Rattle.relay_filters.specs.Response.{SomeAllow};
-ghost use Rattle.relay_hooked.specs.Laws.{IsAttemptSoFar, IsInOrderSoFar};
+ghost use Rattle.relay_hooked.specs.Laws.{IsAttemptSoFar, IsCaused, IsFinishing, IsInOrderSoFar};
 
 use relay_hooks::ProxyHttp;
 use relay_links::ByteLink;
@@ -20,5 +20,19 @@ pub fn attempt_so_far<SV: ProxyHttp, L: ByteLink>(_app: &SV)
 /// writer refuses nothing that they made.
 pub fn order_so_far<SV: ProxyHttp, L: ByteLink>(_app: &SV)
     ensures { IsInOrderSoFar L.state L.start
+        (IsAllowed (SV.allows _app.now) (SomeAllow SV.Modules.allows)) }
+{}
+
+/// Where it failed with an error, that has its cause in what passed, by the bytes and by the calls.
+pub fn failure_caused<SV: ProxyHttp, L: ByteLink>(_app: &SV)
+    ensures { IsCaused L.state L.start
+        (IsAllowed (SV.allows _app.now) (SomeAllow SV.Modules.allows)) }
+{}
+
+/// Where it finished, the response was relayed whole, or it was over towards the client before its
+/// end was given to the filters; and the request was sent whole as they left it, or what kept it
+/// from that is said.
+pub fn finish_relayed<SV: ProxyHttp, L: ByteLink>(_app: &SV)
+    ensures { IsFinishing L.state L.start
         (IsAllowed (SV.allows _app.now) (SomeAllow SV.Modules.allows)) }
 {}
