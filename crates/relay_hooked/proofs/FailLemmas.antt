@@ -1,6 +1,6 @@
 -- What fails an exchange behind filters has its cause in what passed.
 --
---   fails_here   from SoFar and the reason of an error: FailsFor
+--   fails_here   from SoFar and the reason of an error: FailsWith
 use Rattle.std.proofs.Common.{◌≡◌, ℕ, Bool, true, false, ◌⊎◌, List, [], ◌∷◌, ◌++◌, length, refl, sym, ap, subst, ◌∙◌, append-nil, append_assoc, arith, inl, inr, Option, Some, None}
 use Rattle.std.specs.List.{list_any}
 use Rattle.relay_tasks.specs.declared.error.Error.{Error}
@@ -13,7 +13,7 @@ use Rattle.relay_tasks.specs.Task.{is_end}
 use Rattle.relay_links.specs.Link.{LinkState, LinkStart}
 use Rattle.relay_peer.specs.declared.peer_side.PeerSide.{PeerSide}
 use Rattle.relay_session.specs.Asked.{request_of}
-use Rattle.relay_session.specs.Response.{has_head, is_over}
+use Rattle.relay_session.specs.Response.{Holds, has_head, is_over}
 use Rattle.relay_session.specs.TaskWire.{first_refusal, or_later, refusal, wire}
 use Rattle.relay_session.specs.declared.task_text.Place.{Place}
 use Rattle.relay_session.specs.declared.task_text.Place.TheVariants as place
@@ -38,7 +38,8 @@ use Rattle.relay_attempt.proofs.SentLemmas.{stays_over}
 use Rattle.relay_attempt.proofs.WriterLemmas.{IsWriters, client_apart, peer_apart, refused_is}
 use Rattle.relay_hooked.specs.Attempt.{HookedHalf}
 use Rattle.relay_hooked.specs.Laws.{GoesSoFar, passed_by}
-use Rattle.relay_hooked.specs.Order.{FailsFor, IsInOrderWith}
+use Rattle.relay_hooked.specs.Order.{FailsFor, FailsWith, IsInOrderWith}
+use Rattle.relay_hooked.specs.Order as causes
 use Rattle.relay_hooked.specs.Sides.{Behind, HookedBlames, HookedCannotEnd, HookedRefuses, PeerSideBlames, TellsAlone, filtering, hooked_state}
 use Rattle.relay_hooked.proofs.FinishLemmas.{over_made}
 use Rattle.relay_hooked.proofs.HalfLemmas.{half_with, hooked_half, own_blames, own_calls}
@@ -93,8 +94,27 @@ module _ {L : Type 0} (state : L → LinkState) (start_at : L → LinkStart)
   where
     -- it failed with the error, for a cause
     abbrev Fails : Type 0
-    Fails = FailsFor (filtering b) s (passed_by p q) link (state up.client.link)
-        (start_at up.client.link) e
+    Fails = FailsWith (filtering b) s (passed_by p q) link (state up.client.link)
+        (start_at up.client.link) b.side.session e
+
+    -- for that cause, where the session holds what was queued by it
+    fails_as : (why : FailsFor (filtering b) s (passed_by p q) link (state up.client.link)
+        (start_at up.client.link) e)
+        → Holds b.side.session.writing
+        ((causes.order_of why).queued ++ (causes.order_of why).closing) p.written → Fails
+    fails_as why holds =
+        let c = so_far.down.holds.passed.client in
+        record {
+          why = why;
+          answers = answers_own s (inside p so_far.down.came so_far.down.queued) link ahead
+              b.side.session c;
+          holds = holds;
+          broken = c.broken;
+        }
+
+    -- as it holds the tasks that its side names
+    held : Holds b.side.session.writing (so_far.down.queued ++ p.closing) p.written
+    held = so_far.down.holds.passed.client.response
 
     -- the client's half
     abbrev half : HookedHalf (filtering b) s link b.ended b.side.done p
@@ -154,11 +174,12 @@ module _ {L : Type 0} (state : L → LinkState) (start_at : L → LinkStart)
         → ClientBlames s (inside p came queued) link e → Fails
     fails_client came queued holds blames =
         let passes = none_refused (client_apart s (inside p came queued) link e blames) in
-        FailsFor.by_client (in_order None passes)
+        fails_as
+        (FailsFor.by_client (in_order None passes)
         (blames_moved s p came half.pieces queued so_far.down.queued link
         (λ unanswered.
         subst (λ (at : Place). is_over at ≡ false) (same_place came queued holds) unanswered) e
-        blames)
+        blames)) held
 
     -- a filter stopped the side, or the check behind one did
     fails_stopped : b.stopped ≡ Some (fail.Error e) → Fails
@@ -167,20 +188,22 @@ module _ {L : Type 0} (state : L → LinkState) (start_at : L → LinkStart)
           | inl none ↦ so_far.down.holds.tasks.none none
           | inr one ↦ none_stopped b.stopped (fail.Error e) one.2 is
         ] in
-        FailsFor.by_filter (in_order None passes) is
+        fails_as
+        (FailsFor.by_filter (in_order None passes) is
         (subst (λ (es : List LogEntry). Refuses (is_head_request s.head.method) e es)
         (own_calls b.first so_far.down.before so_far.down.own b.seen.log so_far.down.parts
         so_far.down.began)
         (subst (λ (of_head : Bool). Refuses of_head e so_far.down.own) so_far.down.is_of_head
-        (so_far.down.told e is)))
+        (so_far.down.told e is)))) held
 
     -- the peer's side answers for the error
     fails_given : PeerSideBlames state start_at s up q e → Fails
     fails_given blames =
         let own = own_blames state start_at s up q so_far.up e blames in
-        FailsFor.by_peer
+        fails_as
+        (FailsFor.by_peer
         (in_order None (none_refused (peer_apart (start_at up.client.link) (state up.client.link)
-        s.sent s.asked q e own))) q.lost own
+        s.sent s.asked q e own))) q.lost own) held
 
     -- the client's side refuses what the filters made, behind what they made before
     module _
@@ -201,6 +224,12 @@ module _ {L : Type 0} (state : L → LinkState) (start_at : L → LinkStart)
             first_refusal (request_of s.head) place.NoHead (l ++ p.closing) ≡ refused)
             (sym is_half) passes)
 
+        -- the session holds them
+        held_here : Holds b.side.session.writing (half'.queued ++ p.closing) p.written
+        held_here =
+            subst (λ (l : List HttpTask). Holds b.side.session.writing (l ++ p.closing) p.written)
+            (sym is_half) holds.passed.client.response
+
         -- nothing stands behind them where no end was asked for
         none_behind : p.closing ≡ [] → (tasks : List HttpTask) → tasks ++ p.closing ≡ tasks
         none_behind unasked tasks =
@@ -212,7 +241,8 @@ module _ {L : Type 0} (state : L → LinkState) (start_at : L → LinkStart)
             → refusal (request_of s.head) (wire (request_of s.head) place.NoHead front).place at
             ≡ Some e → Fails
         fails_cut front at unasked is passes refused =
-            FailsFor.by_cut
+            fails_as
+            (FailsFor.by_cut
             (order_here (Some e)
             (ap (λ (l : List HttpTask). first_refusal (request_of s.head) place.NoHead l)
             (none_behind unasked queued ∙ is)
@@ -221,14 +251,15 @@ module _ {L : Type 0} (state : L → LinkState) (start_at : L → LinkStart)
             or_later o (first_refusal (request_of s.head)
             (wire (request_of s.head) place.NoHead front).place (at ∷ []))) passes
             ∙ ap (λ (o : Option Error). or_later o None) refused)) front at unasked
-            (is_half ∙ is) passes
+            (is_half ∙ is) passes) held_here
 
         -- a batch is refused as a whole
         fails_batch : p.closing ≡ [] → AllPass s queued
             → first_refusal (request_of s.head) (wire (request_of s.head) place.NoHead queued).place
             made ≡ Some e → Fails
         fails_batch unasked passes refused =
-            FailsFor.by_writer
+            fails_as
+            (FailsFor.by_writer
             (order_here None
             (ap (λ (l : List HttpTask). first_refusal (request_of s.head) place.NoHead l)
             (none_behind unasked queued) ∙ passes)) b.stand left made unasked
@@ -240,7 +271,7 @@ module _ {L : Type 0} (state : L → LinkState) (start_at : L → LinkStart)
             ∙ first_refusal-append (request_of s.head) place.NoHead queued made
             ∙ ap (λ (o : Option Error).
             or_later o (first_refusal (request_of s.head)
-            (wire (request_of s.head) place.NoHead queued).place made)) passes ∙ refused)
+            (wire (request_of s.head) place.NoHead queued).place made)) passes ∙ refused)) held_here
 
         -- where the side told no error none of them is refused
         told_none : b.side.told.errors ≡ 0 → AllPass s queued
@@ -299,9 +330,11 @@ module _ {L : Type 0} (state : L → LinkState) (start_at : L → LinkStart)
         b.ended (hooked_state b) refl
         (attempt_by state start_at allows link ahead s b up duplex p q so_far half) ∙ ends in
         elim queued_by [
-          | inl pass ↦ FailsFor.by_end None (in_order None pass) made
-              (inr (no_head pass ends refused)) refused
-          | inr first ↦ FailsFor.by_end (Some e) (in_order (Some e) first) made (inl refl) refused
+          | inl pass ↦ fails_as (FailsFor.by_end None (in_order None pass) made
+              (inr (no_head pass ends refused)) refused) held
+          | inr first ↦
+              fails_as
+              (FailsFor.by_end (Some e) (in_order (Some e) first) made (inl refl) refused) held
         ]
       where
         -- where none of them is refused there is no final head: else the response is over

@@ -3,6 +3,7 @@
 --   attempt_so_far   from SoFar: an attempt between both halves
 --   order_of         from such an attempt: IsInOrder, whose pieces, taken, read, batched and closing
 --                    are those of the pasts, by computing
+--   told_so_far      and it is told by both links
 --   order_by         from SoFar and a half: the order
 --   order_so_far     so the order, from SoFar
 use Rattle.std.proofs.Common.{◌≡◌, ℕ, Bool, true, false, ◌⊎◌, List, [], ◌++◌, refl, sym, ◌∙◌, inl, inr, Option, None}
@@ -26,6 +27,7 @@ use Rattle.relay_sides.specs.Client.{AllPass}
 use Rattle.relay_sides.specs.Filtered.{is_head_request}
 use Rattle.relay_filters.specs.Hooked.{TakesOn}
 use Rattle.relay_attempt.specs.Attempt.{IsAttempt}
+use Rattle.relay_attempt.specs.Exchange.{AreTold}
 use Rattle.relay_attempt.proofs.AttemptLemmas.{attempt_of, batches}
 use Rattle.relay_hooked.specs.Attempt.{HookedHalf, PeerHalf}
 use Rattle.relay_hooked.specs.Calls.{Filtering}
@@ -134,6 +136,23 @@ module _ {L : Type 0} (state : L → LinkState) (start_at : L → LinkStart)
         IsAttempt (HookedHalf (filtering b) s link b.ended b.side.done)
         (PeerHalf s (start_at up.client.link) (state up.client.link)) (hooked_state b)
     attempt_so_far = attempt_by (hooked_half allows link ahead s b p so_far.down)
+
+    -- it is told by both links
+    pub told_so_far : AreTold state start_at s (passed_by p q) link (state up.client.link)
+        (start_at up.client.link)
+    told_so_far =
+        let c = so_far.down.holds.passed.client in
+        let u = so_far.up.peer in
+        record {
+          came = c.came;
+          written = c.written;
+          faults = c.faults;
+          got = u.got;
+          sent = u.sent;
+          peer_faults = u.faults;
+          reused = so_far.up.reused;
+          client_tells = c.tells;
+        }
 
     -- it is in order, by the client's half and the first refusal of what was queued
     abbrev pub order_by : (half : HookedHalf (filtering b) s link b.ended b.side.done p)

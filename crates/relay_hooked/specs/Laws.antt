@@ -12,9 +12,10 @@ use Rattle.relay_core.specs.Past.{Origin, DownPast, UpPast}
 use Rattle.relay_core.specs.declared.duplex.Duplex.{Duplex}
 use Rattle.relay_sides.specs.Client.{AllPass}
 use Rattle.relay_attempt.specs.Attempt.{IsAttempt}
+use Rattle.relay_attempt.specs.Exchange.{AreTold}
 use Rattle.relay_attempt.specs.Passed.{Passed}
 use Rattle.relay_hooked.specs.Attempt.{HookedHalf, PeerHalf}
-use Rattle.relay_hooked.specs.Order.{EndsEarly, FailsFor, IsInOrder, IsRelayed, Leaves}
+use Rattle.relay_hooked.specs.Order.{EndsEarly, FailsWith, IsInOrder, IsRelayed, Leaves}
 use Rattle.relay_hooked.specs.Sides.{Behind, HookedBlames, HookedCannotEnd, HookedHolds, HookedRefuses, PeerHolds, PeerSideBlames, TellsAlone, filtering, hooked_core, hooked_state}
 
 -- what passed, by the pasts of both sides
@@ -38,6 +39,13 @@ module _ {L : Type 0} (state : L → LinkState) (start_at : L → LinkStart)
       → IsAttempt (HookedHalf (filtering b) s link b.ended b.side.done)
       (PeerHalf s (start_at up.client.link) (state up.client.link)) (hooked_state b)
 
+  -- what passed is told by both links
+  abbrev pub IsToldSoFar : Type 0
+  IsToldSoFar = (link : LinkState) (ahead : List ℕ) (s : Origin) (b : Behind) (up : PeerSide L)
+      (duplex : Duplex) (p : DownPast) (q : UpPast) → GoesSoFar link ahead s b up duplex p q
+      → AreTold state start_at s (passed_by p q) link (state up.client.link)
+      (start_at up.client.link)
+
   -- what passed is in order, where the client's writer refuses nothing that the filters made
   abbrev pub IsInOrderSoFar : Type 0
   IsInOrderSoFar = (link : LinkState) (ahead : List ℕ) (s : Origin) (b : Behind)
@@ -53,8 +61,8 @@ module _ {L : Type 0} (state : L → LinkState) (start_at : L → LinkStart)
       → GoesSoFar link ahead s b up duplex p q → TellsAlone b e
       → HasReason (HookedBlames link ahead s b) (HookedRefuses link ahead s b)
       (HookedCannotEnd link ahead s b) (PeerSideBlames state start_at s up) (hooked_state b) p q e
-      → FailsFor (filtering b) s (passed_by p q) link (state up.client.link)
-      (start_at up.client.link) e
+      → FailsWith (filtering b) s (passed_by p q) link (state up.client.link)
+      (start_at up.client.link) b.side.session e
 
   -- what finished was relayed, or over towards the client early; and what that leaves
   abbrev pub IsFinishing : Type 0

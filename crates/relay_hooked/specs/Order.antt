@@ -5,6 +5,7 @@ use Rattle.std.specs.Prelude.{◌≡◌, ◌↔◌, IsTrue, ℕ, Bool, true, fal
 use Rattle.std.specs.List.{list_any, concat}
 use Rattle.relay_tasks.specs.declared.error.Error.{Error}
 use Rattle.relay_tasks.specs.declared.error.Fail.TheVariants as fail
+use Rattle.relay_tasks.specs.declared.fault.Fault.{Fault}
 use Rattle.relay_tasks.specs.declared.task.HttpTask.{HttpTask}
 use Rattle.relay_tasks.specs.declared.task.HttpTask.TheVariants as task
 use Rattle.relay_tasks.specs.Head.{ResponseHead}
@@ -22,13 +23,15 @@ use Rattle.relay_peer.specs.Body.{IsFrontOf, body_of, sent_as}
 use Rattle.relay_peer.specs.Peer.{told_of, EndFramed, Follow, IsOnlyFault, IsWriteError, PeerBlames}
 use Rattle.relay_session.specs.Asked.{request_of}
 use Rattle.relay_session.specs.Reading.{IsWhole}
-use Rattle.relay_session.specs.Response.{has_head, is_over}
+use Rattle.relay_session.specs.Response.{Holds, has_head, is_over}
 use Rattle.relay_session.specs.TaskWire.{Sent, first_refusal, refusal, wire}
 use Rattle.relay_session.specs.declared.task_text.Place.TheVariants as place
+use Rattle.relay_session.specs.declared.session.HttpSession.{HttpSession}
+use Rattle.relay_session.specs.declared.writing.Outgoing.TheVariants as outgoing
 use Rattle.relay_core.specs.Moves.{EndsLast}
 use Rattle.relay_core.specs.Past.{Origin, DownPast, UpPast}
 use Rattle.relay_calls.specs.Log.{requests_in}
-use Rattle.relay_sides.specs.Client.{ClientBlames}
+use Rattle.relay_sides.specs.Client.{ClientBlames, FailsWrite}
 use Rattle.relay_sides.specs.Filtered.{is_head_request}
 use Rattle.relay_filters.specs.Chain.{Refuses}
 use Rattle.relay_filters.specs.Hooked.{TakesOn}
@@ -180,6 +183,18 @@ order_of (FailsFor.by_filter order stopped refuses) = order
 order_of (FailsFor.by_writer order stand batch made unasked read made_so refused) = order
 order_of (FailsFor.by_cut order front at unasked is passes) = order
 order_of (FailsFor.by_end refused order ends why cannot) = order
+
+-- why it failed, and the session that this leaves: it answers the request, with the tasks that were
+-- queued, of whose text so much was written; and where it keeps the fault of a write, the client's
+-- link has answered that since the request began
+pub record FailsWith
+    (f : Filtering) (s : Origin) (p : Passed) (client link : LinkState) (start : LinkStart)
+    (session : HttpSession) (e : Error) : Type 0 where
+  pub why : FailsFor f s p client link start e
+  pub answers : session.writing.request ≡ request_of s.head
+  pub holds : Holds session.writing ((order_of why).queued ++ (order_of why).closing) p.written
+  pub broken : (fault : Fault) → session.writing.output ≡ outgoing.Broken fault
+      → FailsWrite s client fault
 
 -- ---- what finishes
 

@@ -4,7 +4,7 @@
 
 ghost use Rattle.relay_calls.specs.Log.{IsAllowed};
 ghost use Rattle.relay_filters.specs.Response.{SomeAllow};
-ghost use Rattle.relay_hooked.specs.Laws.{IsAttemptSoFar, IsCaused, IsFinishing, IsInOrderSoFar};
+ghost use Rattle.relay_hooked.specs.Laws.{IsAttemptSoFar, IsCaused, IsFinishing, IsInOrderSoFar, IsToldSoFar};
 
 use relay_hooks::ProxyHttp;
 use relay_links::ByteLink;
@@ -12,7 +12,10 @@ use relay_links::ByteLink;
 /// What passed between a client's side behind the filters of that application and a peer's side is
 /// an attempt: each side was given the front of what the other put.
 pub fn attempt_so_far<SV: ProxyHttp, L: ByteLink>(_app: &SV)
-    ensures { IsAttemptSoFar L.state L.start
+    ensures attempt { IsAttemptSoFar L.state L.start
+        (IsAllowed (SV.allows _app.now) (SomeAllow SV.Modules.allows)) }
+    // And it is told by both links.
+    ensures told { IsToldSoFar L.state L.start
         (IsAllowed (SV.allows _app.now) (SomeAllow SV.Modules.allows)) }
 {}
 
