@@ -113,8 +113,8 @@ BlamesOver inner blames stopped p e =
     ⊎ (stopped ≡ Some (fail.Error e))
 
 -- why the side refuses tasks: a filter, or the check behind one, stopped them, for what the last
--- call of the log answered or left; its inner one refuses what the filters made of them, behind what
--- they made, by the calls of the side, of those before; or the side had stopped for that error
+-- call of the log answered or left; its inner one refuses what the filters made of them, behind
+-- what they made, by the calls of the side, of those before; or the side had stopped for that error
 -- before. The side's calls stand in the log behind so many, and `stand` says that modules stand
 pub data RefusesOver (inner : DownPast → Type 0)
     (refuses : DownPast → List HttpTask → Error → Type 0) (of_head stood stand refused : Bool)

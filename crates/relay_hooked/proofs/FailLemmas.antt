@@ -129,7 +129,8 @@ module _ {L : Type 0} (state : L → LinkState) (start_at : L → LinkStart)
 
     -- none of the tasks that were queued is refused, or the first that is is so with the error
     queued_by : AllPass s (so_far.down.queued ++ p.closing)
-        ⊎ (first_refusal (request_of s.head) place.NoHead (so_far.down.queued ++ p.closing) ≡ Some e)
+        ⊎ (first_refusal (request_of s.head) place.NoHead (so_far.down.queued ++ p.closing)
+        ≡ Some e)
     queued_by = elim tells [
       | inl none ↦ inl (so_far.down.holds.tasks.none none)
       | inr one ↦ elim (so_far.down.holds.tasks.one one.0) [

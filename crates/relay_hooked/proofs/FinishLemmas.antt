@@ -374,7 +374,8 @@ module _ {L : Type 0} (state : L → LinkState) (start_at : L → LinkStart)
             λ ends. sym (one_ends c.body done) ∙ ends,
           );
           behind = λ is.
-              subst (λ (l : List ℕ). IsWhole (s.ahead ++ p.came) l ahead) (sym (one_body c.body done))
+              subst (λ (l : List ℕ). IsWhole (s.ahead ++ p.came) l ahead)
+              (sym (one_body c.body done))
               (c.told_whole is);
           serves = may_serve;
           faultless = λ kept. so_far.up.peer.calm (kept_unfailed up.client kept);

@@ -255,8 +255,8 @@ module _
           follow = tasks_came.follow;
           informed = given_informed method s.asked link.ended q.got q.read [] client none_back;
           final = λ head is.
-              let there = given_final method s.asked link.ended q.got q.read [] client none_back head
-              is in
+              let there = given_final method s.asked link.ended q.got q.read [] client none_back
+              head is in
               (there.framing, there.len, there.has);
           body = given_body method s.asked link.ended q.got q.read [] client none_back;
           ends_last = tasks_came.ends_last;

@@ -1,8 +1,8 @@
 -- What both sides of an exchange behind filters hold is in order.
 --
 --   attempt_so_far   from SoFar: an attempt between both halves
---   order_of         from such an attempt: IsInOrder, whose pieces, taken, read, batched and closing
---                    are those of the pasts, by computing
+--   order_of         from such an attempt: IsInOrderWith, whose pieces, taken, read, batched and
+--                    closing are those of the pasts, by computing
 --   told_so_far      and it is told by both links
 --   order_by         from SoFar and a half: the order
 --   order_so_far     so the order, from SoFar

@@ -64,11 +64,12 @@ pub record AreSaid
 
 -- ---- both
 
--- what was sent is the front of the text of the head that is sent and of what the filter of requests
--- left, by these calls, of the client's body, from its first byte on. What was written is the front
--- of the text of what the filters of responses made, by these calls, of the first of the tasks that
--- the peer's bytes are. The first of these that the client's writer refuses is refused so; an end is
--- asked for behind them only where one is among them, or where the response is over behind them
+-- what was sent is the front of the text of the head that is sent and of what the filter of
+-- requests left, by these calls, of the client's body, from its first byte on. What was written is
+-- the front of the text of what the filters of responses made, by these calls, of the first of the
+-- tasks that the peer's bytes are. The first of these that the client's writer refuses is refused
+-- so; an end is asked for behind them only where one is among them, or where the response is over
+-- behind them
 pub record IsInOrderWith
     (refused : Option Error) (f : Filtering) (s : Origin) (p : Passed) (closed : Bool)
     : Type 0 where
@@ -198,7 +199,8 @@ pub record FailsWith
 
 -- ---- what finishes
 
--- the whole request was sent, as the filter left it, with its end as the head that is sent frames it
+-- the whole request was sent, as the filter left it, with its end as the head that is sent frames
+-- it
 pub record SendsWhole
     (f : Filtering) (s : Origin) (p : Passed) (closed : Bool) (order : IsInOrder f s p closed)
     : Type 0 where
@@ -216,11 +218,11 @@ pub record SendsShort (s : Origin) (taken : List HttpTask) : Type 0 where
   pub joined : concat pieces ≡ body_of front
   pub short : is_short (after_pieces (body_framing s.sent) pieces) ≡ true
 
--- the response has come whole, all of it passed the filters, and the text of what they made of it was
--- written whole; where a final head is among that it is over. No read of the peer's link failed,
--- where it tells the faults of its reads. And the request was sent whole as the filter left it, no
--- call of that link having failed; or one write of it failed, and no other call, and the peer's side
--- answers for that error; or the request ends short
+-- the response has come whole, all of it passed the filters, and the text of what they made of it
+-- was written whole; where a final head is among that it is over. No read of the peer's link
+-- failed, where it tells the faults of its reads. And the request was sent whole as the filter left
+-- it, no call of that link having failed; or one write of it failed, and no other call, and the
+-- peer's side answers for that error; or the request ends short
 pub record IsRelayed
     (f : Filtering) (s : Origin) (p : Passed) (link : LinkState) (start : LinkStart)
     : Type 0 where
@@ -238,9 +240,9 @@ pub record IsRelayed
       ⊎ SendsShort s order.taken)
   pub reads : Since [] start.read_faults link.read_faults []
 
--- the response is over towards the client before its end was given to the filters. What they made so
--- far was written whole; and the request was sent whole as the filter left it, or one write of the
--- peer's link failed, with which it was not, or the request ends short
+-- the response is over towards the client before its end was given to the filters. What they made
+-- so far was written whole; and the request was sent whole as the filter left it, or one write of
+-- the peer's link failed, with which it was not, or the request ends short
 pub record EndsEarly
     (f : Filtering) (s : Origin) (p : Passed) (link : LinkState) (start : LinkStart)
     : Type 0 where
