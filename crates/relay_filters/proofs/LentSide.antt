@@ -372,8 +372,9 @@ module _ (s : Origin) (link : LinkState) (ahead : List ℕ) (side lent : ClientS
       made why
       → BatchRefused (IsHooked (InnerPast st s link ahead took) allows method
       (seen_by seen' took.session) mark' first oh a ended false true (stood && stand) st)
-      (λ past left e. RefusesOver (InnerPast st s link ahead took) refuses' oh stand st seen'.log
-      past left e) p tasks why
+      (λ past left e.
+      RefusesOver (InnerPast st s link ahead took) refuses' oh (stood && stand) stand true st first
+      seen'.log past left e) p tasks why
   lent_refused took refuses' made why head failures out g =
       let moves = moves_by s link link ahead ahead lent took (inside p h.came h.queued) g.past
       g.filtered [] head g.is_batched (g.is_closing ∙ sym (append-nil p.closing))
@@ -383,8 +384,9 @@ module _ (s : Origin) (link : LinkState) (ahead : List ℕ) (side lent : ClientS
       first oh a ended false true (stood && stand) st)
       (IsHooked (InnerPast st s link ahead took) allows method (seen_by seen' took.session) mark'
       first oh a ended false true (stood && stand) st)
-      (λ past left e. RefusesOver (InnerPast st s link ahead took) refuses' oh stand st seen'.log
-      past left e) p tasks why
+      (λ past left e.
+      RefusesOver (InnerPast st s link ahead took) refuses' oh (stood && stand) stand true st first
+      seen'.log past left e) p tasks why
       (λ q stands. moved (InnerPast st s link ahead took) allows method seen' lent.session
       took.session mark' first oh a ended false true (stood && stand) st q known moves stands)
       (batch_refused (InnerPast st s link ahead side) (InnerPast st s link ahead took) refuses'
@@ -412,8 +414,9 @@ module _ (s : Origin) (link : LinkState) (ahead : List ℕ) (side lent : ClientS
       (seen_by seen' lent.session) mark'
       → BatchRefused (IsHooked (InnerPast (Some why) s link ahead lent) allows method
       (seen_by seen' lent.session) mark' first oh a ended false rf stood (Some why))
-      (λ past left e. RefusesOver (InnerPast (Some why) s link ahead lent) refuses oh stand
-      (Some why) seen'.log past left e) p tasks why
+      (λ past left e.
+      RefusesOver (InnerPast (Some why) s link ahead lent) refuses oh stood stand rf (Some why)
+      first seen'.log past left e) p tasks why
   lent_fails refuses why out =
       batch_stops (InnerPast st s link ahead side) (InnerPast (Some why) s link ahead lent) refuses
       allows method (seen_by seen side.session) mark first oh a ended false rf stood stand st has p

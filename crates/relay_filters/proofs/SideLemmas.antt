@@ -765,8 +765,9 @@ stops_batch : (inner inner' : DownPast → Type 0)
     → Outcome {Y = List HttpTask} allows (λ es out. BatchPasses oh stand tasks es out)
     (BatchStops oh stand tasks) (Refuses oh) (Err why) seen mark seen' mark'
     → BatchRefused (IsHooked inner' allows method seen' mark' first oh a ended u false stood
-    (Some why)) (λ past left e. RefusesOver inner' refuses oh stand (Some why) seen'.log past left
-    e) p tasks why
+    (Some why)) (λ past left e.
+    RefusesOver inner' refuses oh stood stand false (Some why) first seen'.log past left e)
+    p tasks why
 stops_batch inner inner' refuses allows method seen mark first oh a ended u stood stand p tasks
     (fail.Error error) seen' mark' so_inside h (es, adds, fed, refused) =
     let parts = stop_parts oh stand tasks es fed in
@@ -804,7 +805,8 @@ stops_batch inner inner' refuses allows method seen mark first oh a ended u stoo
       is_closing = refl;
       refused = λ x no_failure is.
           by_filter seen.log es adds.log fed
-          (subst (λ (y : Error). Refuses oh y es) (error_is is) refused);
+          (subst (λ (y : Error). Refuses oh y es) (error_is is) refused)
+          (ap (λ (f : Fail). Some f) is);
     }
   where
     error_in : {x : Error} → Some (fail.Error error) ≡ Some (fail.Error x) → error ≡ x
@@ -861,13 +863,18 @@ refused_open : (inner inner' : DownPast → Type 0)
     → BatchRefused inner' refuses' (inside p h.came h.queued) made why
     → BatchRefused (IsHooked inner' allows method seen' mark' first oh a ended u' true
     (stood && stand) None)
-    (λ past left e. RefusesOver inner' refuses' oh stand None seen'.log past left e) p tasks why
+    (λ past left e.
+    RefusesOver inner' refuses' oh (stood && stand) stand true None first seen'.log past left e)
+    p tasks why
 refused_open inner inner' refuses' allows method seen mark first oh a ended u u' stood stand p tasks
     made why seen' mark' h plain same (es, adds, b) g =
     let parts = batch_parts oh stand tasks es made b in
     let t = makes_front oh stood stand h.own es (TakesOn None false) (TakesOn None true) p.batched
     tasks h.queued made g.filtered g.left (refl, refl) (λ so. not_taken so.1) g.parts h.response b
     in
+    let made_by =
+    same_response oh (stood && stand) (h.own ++ es) (TakesOn None true) (p.batched ++ t.first)
+    (p.batched ++ t.first) (h.queued ++ g.filtered) g.past.batched refl g.is_batched t.makes in
     record {
       filtered = t.first;
       left = t.last;
@@ -887,11 +894,7 @@ refused_open inner inner' refuses' allows method seen mark first oh a ended u u'
             (requests_same h.own es b.by_app b.by_modules parts) (λ so. so) g.is_put refl
             (h.request (plain not_up));
         is_of_head = h.is_of_head;
-        response =
-            same_response oh (stood && stand) (h.own ++ es) (TakesOn None true)
-            (p.batched ++ t.first)
-            (p.batched ++ t.first) (h.queued ++ g.filtered) g.past.batched refl g.is_batched
-            t.makes;
+        response = made_by;
         head = λ on. adds.head;
         told = λ e is. cc;
       };
@@ -899,8 +902,9 @@ refused_open inner inner' refuses' allows method seen mark first oh a ended u u'
       is_batched = refl;
       is_closing = g.is_closing;
       refused = λ e no_failure is.
-          by_inner g.past.put g.past.batched g.left g.stands t.made
-          (g.refused e (same ∙ no_failure) is);
+          by_inner g.past.put g.past.batched g.left g.stands h.before (h.own ++ es)
+          (parts_behind h.before h.own es seen.log seen'.log h.parts adds.log) h.began made_by
+          t.made (g.refused e (same ∙ no_failure) is);
     }
   where
     not_taken : true ≡ false → ⊥
@@ -938,20 +942,17 @@ pub batch_stops : (inner inner' : DownPast → Type 0)
     → Outcome {Y = List HttpTask} allows (λ es out. BatchPasses oh stand tasks es out)
     (BatchStops oh stand tasks) (Refuses oh) (Err why) seen mark seen' mark'
     → BatchRefused (IsHooked inner' allows method seen' mark' first oh a ended u rf stood
-    (Some why)) (λ past left e. RefusesOver inner' refuses oh stand (Some why) seen'.log past left
-    e) p tasks why
-batch_stops inner inner' refuses allows method seen mark first oh a ended u rf stood stand (Some
-    before)
-    has p tasks why seen' mark' on so_inside h = some_none _ on
+    (Some why)) (λ past left e.
+    RefusesOver inner' refuses oh stood stand rf (Some why) first seen'.log past left e)
+    p tasks why
+batch_stops inner inner' refuses allows method seen mark first oh a ended u rf stood stand
+    (Some before) has p tasks why seen' mark' on so_inside h = some_none _ on
 batch_stops inner inner' refuses allows method seen mark first oh a ended u true stood stand None
-    has p
-    tasks why seen' mark' on so_inside h = some_none _ on
+    has p tasks why seen' mark' on so_inside h = some_none _ on
 batch_stops inner inner' refuses allows method seen mark first oh a ended u false stood stand None
-    has p
-    tasks why seen' mark' on so_inside h =
+    has p tasks why seen' mark' on so_inside h =
     stops_batch inner inner' refuses allows method seen mark first oh a ended u stood stand p tasks
-    why
-    seen' mark' so_inside h
+    why seen' mark' so_inside h
 
 pub batch_refused : (inner inner' : DownPast → Type 0)
     (refuses' : DownPast → List HttpTask → Error → Type 0)
@@ -966,7 +967,9 @@ pub batch_refused : (inner inner' : DownPast → Type 0)
     → BatchRefused inner' refuses' (inside p h.came h.queued) made why
     → BatchRefused (IsHooked inner' allows method seen' mark' first oh a ended u' true
     (stood && stand) st)
-    (λ past left e. RefusesOver inner' refuses' oh stand st seen'.log past left e) p tasks why
+    (λ past left e.
+    RefusesOver inner' refuses' oh (stood && stand) stand true st first seen'.log past left e)
+    p tasks why
 batch_refused inner inner' refuses' allows method seen mark first oh a ended u u' rf stood stand
     (Some before) has p tasks made why seen' mark' on h = some_none _ on
 batch_refused inner inner' refuses' allows method seen mark first oh a ended u u' true stood stand
@@ -1036,7 +1039,8 @@ pub at_once : (inner : DownPast → Type 0) (refuses : DownPast → List HttpTas
     (tasks : List HttpTask) (why : Fail) → refused_at_once st rf has tasks ≡ Some why
     → IsHooked inner allows method seen mark first oh a ended u rf stood st p
     → BatchRefused (IsHooked inner allows method seen mark first oh a ended u rf stood st)
-    (λ past left e. RefusesOver inner refuses oh stand st seen.log past left e) p tasks why
+    (λ past left e.
+    RefusesOver inner refuses oh stood stand rf st first seen.log past left e) p tasks why
 at_once inner refuses allows method seen mark first oh a ended u rf stood stand st has p tasks why
     is h =
     record {

@@ -33,8 +33,7 @@ abbrev pub state_of_side : ClientSide → DownState
 state_of_side side = state_of side.session side.told side.done side.finished side.broken
 
 -- memory was wanted in a call of a hook. It may have left anything in the client's session, which
--- is
--- neither read nor written from then on
+-- is neither read nor written from then on
 abbrev pub is_lost : Option Fail → Bool
 is_lost None = false
 is_lost (Some fail.OutOfMemory) = true
@@ -159,16 +158,20 @@ BlamesOver inner blames stopped p e =
     ⊎ (stopped ≡ Some (fail.Error e))
 
 -- why the side refuses tasks: a filter, or the check behind one, stopped them, for what the last
--- call of the log answered or left; its inner one refuses what the filters made of them; or the
--- side had stopped for that error before. `stand` says that modules stand
+-- call of the log answered or left; its inner one refuses what the filters made of them, behind
+-- what they made, by the calls of the side, of those before; or the side had stopped for that error
+-- before. The side's calls stand in the log behind so many, and `stand` says that modules stand
 pub data RefusesOver (inner : DownPast → Type 0)
-    (refuses : DownPast → List HttpTask → Error → Type 0) (of_head stand : Bool)
-    (stopped : Option Fail) (log : List LogEntry) (p : DownPast) (left : List HttpTask)
+    (refuses : DownPast → List HttpTask → Error → Type 0) (of_head stood stand refused : Bool)
+    (stopped : Option Fail) (first : ℕ) (log : List LogEntry) (p : DownPast) (left : List HttpTask)
     (e : Error) : Type 0 where
   by_filter : (before own : List LogEntry) → log ≡ before ++ own → BatchStops of_head stand left own
-      → Refuses of_head e own → RefusesOver inner refuses of_head stand stopped log p left e
+      → Refuses of_head e own → stopped ≡ Some (fail.Error e)
+      → RefusesOver inner refuses of_head stood stand refused stopped first log p left e
   by_inner : (came queued made : List HttpTask) → inner (inside p came queued)
+      → (before own : List LogEntry) → log ≡ before ++ own → length before ≡ first
+      → MakesOf of_head stood own (TakesOn stopped refused) p.batched queued
       → WasMade of_head stand left made → refuses (inside p came queued) made e
-      → RefusesOver inner refuses of_head stand stopped log p left e
+      → RefusesOver inner refuses of_head stood stand refused stopped first log p left e
   had_stopped : stopped ≡ Some (fail.Error e)
-      → RefusesOver inner refuses of_head stand stopped log p left e
+      → RefusesOver inner refuses of_head stood stand refused stopped first log p left e

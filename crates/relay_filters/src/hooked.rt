@@ -211,8 +211,9 @@ impl<'a, SV: ProxyHttp, F: Front> Down<F> for Hooked<'a, SV> {
 
     ghost refuses = { λ f client s p left e. RefusesOver
         (InnerPast f.side.stopped s (F.state client) (F.ahead client) f.side.inner)
-        (λ q. ClientRefuses s q (F.state client) f.side.inner.told) f.side.of_head
-        (is_some f.side.session.modules) f.side.stopped f.side.session.seen.log p left e };
+        (λ q. ClientRefuses s q (F.state client) f.side.inner.told) f.side.of_head f.side.stood
+        (is_some f.side.session.modules) f.side.refused f.side.stopped f.side.first
+        f.side.session.seen.log p left e };
 
     ghost cannot_end = { λ f client s p e. BlamesOver
         (InnerPast f.side.stopped s (F.state client) (F.ahead client) f.side.inner)

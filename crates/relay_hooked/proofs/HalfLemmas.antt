@@ -1,0 +1,304 @@
+-- What both sides of an exchange behind filters hold is a half of an attempt.
+--
+--   hooked_half   from IsHooked over the client's side: the client's half
+--   peer_half     from IsPeerSide: the upstream's half
+--   own_blames    the peer's side answers for an error by the head that is sent
+use Rattle.std.proofs.Common.{◌≡◌, ℕ, Bool, true, false, List, [], ◌∷◌, ◌++◌, length, drop, refl, sym, ap, subst, ◌∙◌, append-nil, arith, inl, inr, Some, None}
+use Rattle.std.specs.List.{list_any}
+use Rattle.std.proofs.Math.Seq.{drop-append_seam}
+use Rattle.relay_tasks.specs.declared.error.Error.{Error}
+use Rattle.relay_tasks.specs.declared.log.LogEntry.{LogEntry}
+use Rattle.relay_tasks.specs.declared.task.HttpTask.{HttpTask}
+use Rattle.relay_tasks.specs.declared.task.HttpTask.TheVariants as task
+use Rattle.relay_tasks.specs.Head.{RequestHead, ResponseHead}
+use Rattle.relay_tasks.specs.Task.{is_end}
+use Rattle.relay_links.specs.Link.{LinkState, LinkStart}
+use Rattle.relay_peer.specs.RequestWriting.{sent_wire}
+use Rattle.relay_peer.specs.Body.{IsFrontOf, sent_as}
+use Rattle.relay_peer.specs.Body as body
+use Rattle.relay_peer.specs.Peer.{AreTasks, IsPeerSide, PeerBlames, told_of}
+use Rattle.relay_peer.specs.declared.peer_side.PeerSide.{PeerSide}
+use Rattle.relay_peer.proofs.FrontLemmas.{front_then}
+use Rattle.relay_peer.proofs.TaskLemmas.{ended_whole}
+use Rattle.relay_session.specs.Reading.{is_body_done}
+use Rattle.relay_session.specs.Response.{is_over}
+use Rattle.relay_session.specs.TaskWire.{wire}
+use Rattle.relay_session.specs.declared.session.HttpSession.{HttpSession}
+use Rattle.relay_session.specs.declared.task_text.Place.TheVariants as place
+use Rattle.relay_session.specs.declared.task_text.Request.{Request}
+use Rattle.relay_core.specs.Moves.{EndsLast}
+use Rattle.relay_core.specs.Past.{Origin, DownPast, UpPast}
+use Rattle.relay_calls.specs.Log.{requests_in}
+use Rattle.relay_hooks.specs.Standing.{Standing}
+use Rattle.relay_sides.specs.Client.{HaveSome, IsClient}
+use Rattle.relay_sides.specs.Filtered.{is_head_request}
+use Rattle.relay_filters.specs.Hooked.{TakesOn, inside}
+use Rattle.relay_filters.specs.Request as request
+use Rattle.relay_filters.specs.Request.{PassesRequest}
+use Rattle.relay_filters.specs.Response.{MakesOf}
+use Rattle.relay_attempt.specs.Exchange.{DownHolds}
+use Rattle.relay_attempt.proofs.OrderLemmas.{answers_own, front_own, own_request, pieces_said}
+use Rattle.relay_attempt.proofs.ToldLemmas.{given_body, given_final, given_informed}
+use Rattle.relay_hooked.specs.Attempt.{HookedHalf, PeerHalf}
+use Rattle.relay_hooked.specs.Calls.{calls_behind}
+use Rattle.relay_hooked.specs.Order.{AreSaid}
+use Rattle.relay_hooked.specs.Sides.{Behind, HookedHolds, PeerHolds, PeerSideBlames, filtering}
+
+-- ---- the body that came, as one piece
+
+-- the bytes of a body so far, and its end, as one piece; none where there are neither
+abbrev pub one_piece : List ℕ → Bool → List HttpTask
+one_piece [] false = []
+one_piece [] true = task.Body None true ∷ []
+one_piece (b ∷ bytes) done = task.Body (Some (b ∷ bytes)) done ∷ []
+
+-- it brings these bytes
+pub one_body : (bytes : List ℕ) (done : Bool) → body.body_of (one_piece bytes done) ≡ bytes
+one_body [] true = refl
+one_body [] false = refl
+one_body (b ∷ bytes) done = append-nil (b ∷ bytes)
+
+-- it has some, or is an end
+pub one_some : (bytes : List ℕ) (done : Bool) → HaveSome (one_piece bytes done)
+one_some [] true = (inr refl, tt)
+one_some [] false = tt
+one_some (b ∷ bytes) done = (inl (omega arith), tt)
+
+-- it is an end exactly where the body has ended
+pub one_ends : (bytes : List ℕ) (done : Bool) → list_any is_end (one_piece bytes done) ≡ done
+one_ends [] true = refl
+one_ends [] false = refl
+one_ends (b ∷ bytes) true = refl
+one_ends (b ∷ bytes) false = refl
+
+-- nothing stands behind one task
+last_of_one : (t : HttpTask) → EndsLast (t ∷ [])
+last_of_one t [] behind same ends = absurd (cc)
+last_of_one t (x ∷ []) behind same ends = cc
+last_of_one t (x ∷ y ∷ front) behind same ends = absurd (cc)
+
+-- nor behind none
+last_of_none : EndsLast []
+last_of_none [] behind same ends = absurd (cc)
+last_of_none (x ∷ front) behind same ends = absurd (cc)
+
+-- so an end is the last of it
+pub one_last : (bytes : List ℕ) (done : Bool) → EndsLast (one_piece bytes done)
+one_last [] true = last_of_one (task.Body None true)
+one_last [] false = last_of_none
+one_last (b ∷ bytes) done = last_of_one (task.Body (Some (b ∷ bytes)) done)
+
+-- the bytes of a task are the same for the filters
+bytes_same : (t : HttpTask) → request.bytes_of t ≡ body.bytes_of t
+bytes_same (task.Header head end) = refl
+bytes_same (task.Body bytes end) = refl
+bytes_same (task.UpgradedBody bytes end) = refl
+bytes_same (task.Trailer fields) = refl
+bytes_same task.Done = refl
+bytes_same (task.Failed error) = refl
+
+-- and so are those of tasks
+pub body_same : (tasks : List HttpTask) → request.body_of tasks ≡ body.body_of tasks
+body_same [] = refl
+body_same (t ∷ tasks) = rw (bytes_same t, body_same tasks) refl
+
+-- ---- the calls
+
+-- the calls behind those before
+pub own_calls : (first : ℕ) (before own log : List LogEntry) → log ≡ before ++ own
+    → length before ≡ first → own ≡ calls_behind first log
+own_calls first before own log parts began =
+    sym (drop-append_seam before own) ∙ ap (λ (n : ℕ). drop n (before ++ own)) began
+    ∙ ap (λ (l : List LogEntry). drop first l) (sym parts)
+
+-- ---- the client's half
+
+module _
+    (s : Origin) (p : DownPast) (came queued : List HttpTask) (link : LinkState) (ahead : List ℕ)
+    (session : HttpSession) (c : IsClient s (inside p came queued) link ahead session)
+  where
+    -- the body so far, as one piece
+    abbrev pub body_piece : List HttpTask
+    body_piece = one_piece c.body (is_body_done session.reading)
+
+    -- the client's side holds, where that piece was put
+    abbrev pub with_one : IsClient s (inside p body_piece queued) link ahead session
+    with_one = record {
+      came = c.came;
+      written = c.written;
+      faults = c.faults;
+      head = c.head;
+      framing = c.framing;
+      len = c.len;
+      has = c.has;
+      has_head = c.has_head;
+      own = c.own;
+      answers = c.answers;
+      body = c.body;
+      request = c.request;
+      joined = one_body c.body (is_body_done session.reading);
+      some = one_some c.body (is_body_done session.reading);
+      ended = λ is. sym (one_ends c.body (is_body_done session.reading)) ∙ is;
+      whole = λ done. one_ends c.body (is_body_done session.reading) ∙ done;
+      headed = c.headed;
+      told_whole = c.told_whole;
+      response = c.response;
+      broken = c.broken;
+      tells = c.tells;
+    }
+
+    -- what the filter was given is of that piece, as it was of those that came
+    pub passes_one : (a ended : Bool) (es : List LogEntry) (on : Type 0) (put : List HttpTask)
+        → PassesRequest a ended es on came put → PassesRequest a ended es on body_piece put
+    passes_one a ended es on put r = record {
+      rest = r.rest;
+      read = body_same body_piece ∙ one_body c.body (is_body_done session.reading)
+          ∙ sym (body_same came ∙ c.joined) ∙ r.read;
+      all = r.all;
+      left = r.left;
+      is_ended = r.is_ended;
+    }
+
+-- what the side behind filters holds, of which these tasks were queued that the filters made by its
+-- calls, is the client's half
+module _
+    (allows : Standing → LogEntry → Type 0) (link : LinkState) (ahead : List ℕ) (s : Origin)
+    (b : Behind) (p : DownPast) (h : HookedHolds allows link ahead s b p)
+  where
+    -- the half, by tasks with which the client's side holds too
+    abbrev pub half_with : (came queued : List HttpTask)
+        → DownHolds link ahead b.side s (inside p came queued) → (before own : List LogEntry)
+        → b.seen.log ≡ before ++ own → length before ≡ b.first
+        → MakesOf b.of_head b.stood own (TakesOn b.stopped b.refused) p.batched queued
+        → HookedHalf (filtering b) s link b.ended b.side.done p
+    half_with came queued holds before own parts began makes =
+        let inner = inside p came queued in
+        let session = b.side.session in
+        let c = h.holds.passed.client in
+        let d = holds.passed.client in
+        record {
+          came = c.came;
+          written = c.written;
+          faults = c.faults;
+          tells = c.tells;
+          framing = c.framing;
+          len = c.len;
+          asks = own_request s (inside p h.came h.queued) link ahead session c;
+          pieces = body_piece s p h.came h.queued link ahead session c;
+          are_pieces =
+              pieces_said s
+              (inside p (body_piece s p h.came h.queued link ahead session c) h.queued) link ahead
+              session (with_one s p h.came h.queued link ahead session c)
+              (one_last c.body (is_body_done session.reading));
+          passed =
+              subst (λ (es : List LogEntry).
+              PassesRequest b.at_first b.ended (requests_in es) (b.stopped ≡ None)
+              (body_piece s p h.came h.queued link ahead session c) p.put)
+              (own_calls b.first h.before h.own b.seen.log h.parts h.began)
+              (passes_one s p h.came h.queued link ahead session c b.at_first b.ended
+              (requests_in h.own) (b.stopped ≡ None) p.put (h.request refl));
+          queued = queued;
+          makes =
+              subst (λ (es : List LogEntry).
+              MakesOf (is_head_request s.head.method) b.stood es (TakesOn b.stopped b.refused)
+              p.batched queued) (own_calls b.first before own b.seen.log parts began)
+              (subst (λ (of_head : Bool).
+              MakesOf of_head b.stood own (TakesOn b.stopped b.refused) p.batched queued)
+              h.is_of_head makes);
+          plain = holds.passed.plain;
+          plain_end = holds.passed.plain_end;
+          over = λ is.
+              subst (λ (r : Request). is_over (wire r place.NoHead queued).place ≡ true)
+              (answers_own s inner link ahead session d) (holds.passed.over is);
+          is_written = front_own s inner link ahead session d;
+        }
+
+    -- the half, by the tasks that it names
+    abbrev pub hooked_half : HookedHalf (filtering b) s link b.ended b.side.done p
+    hooked_half = half_with h.came h.queued h.holds h.before h.own h.parts h.began h.response
+
+-- ---- the upstream's half
+
+-- what the peer's side holds is its half
+module _
+    {L : Type 0} (s : Origin) (start : LinkStart) (link : LinkState) (side : PeerSide L)
+    (q : UpPast) (h : IsPeerSide s start link side q)
+  where
+    -- what was sent is the front of what the pieces are sent as
+    pub sent_front : IsFrontOf q.sent (sent_wire (sent_as s.sent q.taken))
+    sent_front =
+        let u = h.peer in
+        subst (λ (a : RequestHead). IsFrontOf q.sent (sent_wire (sent_as a q.taken))) u.own
+        (front_then q.sent (sent_wire u.sending) (sent_wire (sent_as u.head q.taken))
+        (record { rest = side.client.request.unsent; joined = u.so_far.text }) u.queued.front)
+
+    -- the tasks that came, for the method that was sent
+    pub tasks_came : AreTasks s.sent.method s.asked link.ended q.got q.read side.client.response
+    tasks_came =
+        subst (λ (a : RequestHead).
+        AreTasks a.method s.asked link.ended q.got q.read side.client.response) h.peer.own
+        h.peer.tasks
+
+    -- the same, with none withheld
+    none_back : AreTasks s.sent.method s.asked link.ended q.got (q.read ++ []) side.client.response
+    none_back =
+        subst (λ (l : List HttpTask).
+        AreTasks s.sent.method s.asked link.ended q.got l side.client.response)
+        (sym (append-nil q.read)) tasks_came
+
+    -- they are those of the response
+    pub said : AreSaid s.sent.method s.asked link.ended q.got q.read
+    said =
+        let method = s.sent.method in
+        let client = side.client.response in
+        record {
+          follow = tasks_came.follow;
+          informed = given_informed method s.asked link.ended q.got q.read [] client none_back;
+          final = λ head is.
+              let there = given_final method s.asked link.ended q.got q.read [] client none_back
+              head is in
+              (there.framing, there.len, there.has);
+          body = given_body method s.asked link.ended q.got q.read [] client none_back;
+          ends_last = tasks_came.ends_last;
+          whole = λ ends.
+              let all = ended_whole method s.asked q.got link.ended q.read client tasks_came ends in
+              (all.place, all.whole);
+          framed = tasks_came.framed;
+        }
+
+    -- an end among them stands behind a final head
+    pub headed : list_any is_end q.read ≡ true
+        → (head : ResponseHead) × ((told_of q.read).final ≡ Some head)
+    headed ends =
+        let all = ended_whole s.sent.method s.asked q.got link.ended q.read side.client.response
+        tasks_came ends in
+        (all.head, all.final)
+
+    -- so this is the upstream's half
+    abbrev pub peer_half : PeerHalf s start link q
+    peer_half = record {
+      got = h.peer.got;
+      sent = h.peer.sent;
+      faults = h.peer.faults;
+      reused = h.reused;
+      are_said = said;
+      headed = headed;
+      is_sent = sent_front;
+    }
+
+-- ---- the peer's side
+
+-- one head
+same_head : (a b : RequestHead) → Some a ≡ Some b → a ≡ b
+same_head a b same = cc
+
+-- the peer's side answers for the error, by the head that is sent
+pub own_blames : {L : Type 0} (state : L → LinkState) (start_at : L → LinkStart) (s : Origin)
+    (up : PeerSide L) (q : UpPast) → PeerHolds state start_at s up q → (e : Error)
+    → PeerSideBlames state start_at s up q e
+    → PeerBlames (start_at up.client.link) (state up.client.link) s.sent s.asked q e
+own_blames state start_at s up q h e blames =
+    let u = h.peer in
+    subst (λ (a : RequestHead).
+    PeerBlames (start_at up.client.link) (state up.client.link) a s.asked q e)
+    (same_head blames.0 u.head (sym blames.1 ∙ u.is_head) ∙ u.own) blames.2

@@ -1,0 +1,6 @@
+pub mod ChainLemmas
+pub mod PlaceLemmas
+pub mod HalfLemmas
+pub mod OrderLemmas
+pub mod FinishLemmas
+pub mod FailLemmas

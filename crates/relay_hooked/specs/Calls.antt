@@ -1,0 +1,18 @@
+-- The calls of filters in an attempt, and what the side that made them tells of them.
+use Rattle.std.specs.Prelude.{ℕ, Bool, List, Option, drop}
+use Rattle.relay_tasks.specs.declared.error.Fail.{Fail}
+use Rattle.relay_tasks.specs.declared.log.LogEntry.{LogEntry}
+
+-- the calls of an attempt in order; whether its request had ended before the first of them; whether
+-- modules stood for each batch of its response; why the side stopped, if it did; and whether the
+-- client's side refused a batch that the filters made
+pub record Filtering : Type 0 where
+  pub calls : List LogEntry
+  pub at_first : Bool
+  pub stood : Bool
+  pub stopped : Option Fail
+  pub refused : Bool
+
+-- the calls of an attempt that began behind so many of the log
+abbrev pub calls_behind : ℕ → List LogEntry → List LogEntry
+calls_behind first log = drop first log

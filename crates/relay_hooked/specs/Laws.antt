@@ -1,0 +1,80 @@
+-- What each exchange behind filters keeps, whatever passed: laws over the pasts of both sides.
+use Rattle.std.specs.Prelude.{ℕ, List, ◌++◌, ◌⊎◌}
+use Rattle.relay_tasks.specs.declared.error.Error.{Error}
+use Rattle.relay_tasks.specs.declared.log.LogEntry.{LogEntry}
+use Rattle.relay_links.specs.Link.{LinkState, LinkStart}
+use Rattle.relay_hooks.specs.Standing.{Standing}
+use Rattle.relay_peer.specs.H1Client.{may_keep_client}
+use Rattle.relay_session.specs.Reading.{is_body_done}
+use Rattle.relay_peer.specs.declared.peer_side.PeerSide.{PeerSide}
+use Rattle.relay_core.specs.Moves.{Finishes, HasReason, SoFar}
+use Rattle.relay_core.specs.Past.{Origin, DownPast, UpPast}
+use Rattle.relay_core.specs.declared.duplex.Duplex.{Duplex}
+use Rattle.relay_sides.specs.Client.{AllPass}
+use Rattle.relay_attempt.specs.Attempt.{IsAttempt}
+use Rattle.relay_attempt.specs.Exchange.{AreTold}
+use Rattle.relay_attempt.specs.Passed.{Passed}
+use Rattle.relay_hooked.specs.Attempt.{HookedHalf, PeerHalf}
+use Rattle.relay_hooked.specs.Order.{EndsEarly, FailsWith, IsInOrder, IsRelayed, Leaves}
+use Rattle.relay_hooked.specs.Sides.{Behind, HookedBlames, HookedCannotEnd, HookedHolds, HookedRefuses, PeerHolds, PeerSideBlames, TellsAlone, filtering, hooked_core, hooked_state}
+
+-- what passed, by the pasts of both sides
+abbrev pub passed_by : DownPast → UpPast → Passed
+passed_by p q = record { came = p.came; written = p.written; got = q.got; sent = q.sent }
+
+module _ {L : Type 0} (state : L → LinkState) (start_at : L → LinkStart)
+    (allows : Standing → LogEntry → Type 0) where
+  -- an exchange so far, between a client behind filters and a peer
+  abbrev pub GoesSoFar : LinkState → List ℕ → Origin → Behind → PeerSide L → Duplex → DownPast
+      → UpPast → Type 0
+  GoesSoFar link ahead s b up duplex p q =
+      SoFar (HookedHolds allows link ahead s b) (PeerHolds state start_at s up)
+      (PeerSideBlames state start_at s up) (hooked_core duplex b up) p q
+
+  -- what passed is an attempt between both halves
+  abbrev pub IsAttemptSoFar : Type 0
+  IsAttemptSoFar = (link : LinkState) (ahead : List ℕ) (s : Origin) (b : Behind)
+      (up : PeerSide L) (duplex : Duplex) (p : DownPast) (q : UpPast)
+      → GoesSoFar link ahead s b up duplex p q
+      → IsAttempt (HookedHalf (filtering b) s link b.ended b.side.done)
+      (PeerHalf s (start_at up.client.link) (state up.client.link)) (hooked_state b)
+
+  -- what passed is told by both links
+  abbrev pub IsToldSoFar : Type 0
+  IsToldSoFar = (link : LinkState) (ahead : List ℕ) (s : Origin) (b : Behind) (up : PeerSide L)
+      (duplex : Duplex) (p : DownPast) (q : UpPast) → GoesSoFar link ahead s b up duplex p q
+      → AreTold state start_at s (passed_by p q) link (state up.client.link)
+      (start_at up.client.link)
+
+  -- what passed is in order, where the client's writer refuses nothing that the filters made
+  abbrev pub IsInOrderSoFar : Type 0
+  IsInOrderSoFar = (link : LinkState) (ahead : List ℕ) (s : Origin) (b : Behind)
+      (up : PeerSide L) (duplex : Duplex) (p : DownPast) (q : UpPast)
+      → (h : GoesSoFar link ahead s b up duplex p q)
+      → AllPass s (h.down.queued ++ p.closing)
+      → IsInOrder (filtering b) s (passed_by p q) (state up.client.link).ended
+
+  -- what failed with an error has its cause in what passed, where the client's side told no other
+  abbrev pub IsCaused : Type 0
+  IsCaused = (link : LinkState) (ahead : List ℕ) (s : Origin) (b : Behind) (up : PeerSide L)
+      (duplex : Duplex) (p : DownPast) (q : UpPast) (e : Error)
+      → GoesSoFar link ahead s b up duplex p q → TellsAlone b e
+      → HasReason (HookedBlames link ahead s b) (HookedRefuses link ahead s b)
+      (HookedCannotEnd link ahead s b) (PeerSideBlames state start_at s up) (hooked_state b) p q e
+      → FailsWith (filtering b) s (passed_by p q) link (state up.client.link)
+      (start_at up.client.link) b.side.session e
+
+  -- what finished was relayed, or over towards the client early; and what that leaves
+  abbrev pub IsFinishing : Type 0
+  IsFinishing = (link : LinkState) (ahead : List ℕ) (s : Origin) (b : Behind) (up : PeerSide L)
+      (duplex : Duplex) (p : DownPast) (q : UpPast)
+      → (h : GoesSoFar link ahead s b up duplex p q) → AllPass s (h.down.queued ++ p.closing)
+      → Finishes (hooked_core duplex b up) p q
+      → ((r : IsRelayed (filtering b) s (passed_by p q) (state up.client.link)
+      (start_at up.client.link))
+      × Leaves (filtering b) s (passed_by p q) (state up.client.link) (start_at up.client.link)
+      r.order ahead (is_body_done b.side.session.reading) (may_keep_client up.client))
+      ⊎ ((r : EndsEarly (filtering b) s (passed_by p q) (state up.client.link)
+      (start_at up.client.link))
+      × Leaves (filtering b) s (passed_by p q) (state up.client.link) (start_at up.client.link)
+      r.order ahead (is_body_done b.side.session.reading) (may_keep_client up.client))

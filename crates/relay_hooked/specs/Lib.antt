@@ -1,0 +1,5 @@
+pub mod Calls
+pub mod Order
+pub mod Attempt
+pub mod Sides
+pub mod Laws

@@ -1,0 +1,105 @@
+-- Both sides of an exchange behind filters, by what a struct of it would hold.
+use Rattle.std.specs.Prelude.{◌≡◌, ◌⊎◌, ℕ, Bool, false, List, Option, Some, None}
+use Rattle.relay_tasks.specs.declared.error.Error.{Error}
+use Rattle.relay_tasks.specs.declared.error.Fail.{Fail}
+use Rattle.relay_tasks.specs.declared.log.LogEntry.{LogEntry}
+use Rattle.relay_tasks.specs.declared.task.HttpTask.{HttpTask}
+use Rattle.relay_tasks.specs.Head.{RequestHead}
+use Rattle.relay_links.specs.Link.{LinkState, LinkStart}
+use Rattle.relay_core.specs.Down.{DownState}
+use Rattle.relay_core.specs.Past.{Origin, DownPast, UpPast}
+use Rattle.relay_core.specs.Table.{State, core}
+use Rattle.relay_core.specs.declared.duplex.Duplex.{Duplex}
+use Rattle.relay_core.specs.declared.told.Told.{Told}
+use Rattle.relay_modules.specs.declared.seen.Seen.{Seen}
+use Rattle.relay_hooks.specs.Standing.{Standing}
+use Rattle.relay_peer.specs.RequestWriting.{head_in}
+use Rattle.relay_peer.specs.Peer.{IsPeerSide, PeerBlames}
+use Rattle.relay_peer.specs.Peer as peer
+use Rattle.relay_peer.specs.declared.peer_side.PeerSide.{PeerSide}
+use Rattle.relay_sides.specs.Client.{CannotEnd, ClientBlames, ClientRefuses}
+use Rattle.relay_sides.specs.declared.client_side.ClientSide.{ClientSide}
+use Rattle.relay_filters.specs.Hooked.{BlamesOver, IsHooked, RefusesOver, state_over}
+use Rattle.relay_attempt.specs.Exchange.{DownHolds, down_state}
+use Rattle.relay_hooked.specs.Calls.{Filtering, calls_behind}
+
+-- the client's side behind filters: the side over the client's session; the session that the hooks
+-- were given, and the context's mark; how many calls stood in the log before the side's own; and
+-- its flags, of which `stand` says that modules stand
+pub record Behind : Type 0 where
+  pub side : ClientSide
+  pub seen : Seen
+  pub mark : ℕ
+  pub first : ℕ
+  pub of_head : Bool
+  pub at_first : Bool
+  pub ended : Bool
+  pub refused : Bool
+  pub stood : Bool
+  pub stand : Bool
+  pub held : Bool
+  pub stopped : Option Fail
+  pub told : Told
+
+-- its calls, and what it tells of them
+abbrev pub filtering : Behind → Filtering
+filtering b = record {
+  calls = calls_behind b.first b.seen.log;
+  at_first = b.at_first;
+  stood = b.stood;
+  stopped = b.stopped;
+  refused = b.refused;
+}
+
+-- its state
+abbrev pub hooked_state : Behind → DownState
+hooked_state b = state_over (down_state b.side) b.ended b.stopped b.held b.told b.seen.log
+
+module _ (allows : Standing → LogEntry → Type 0) (link : LinkState) (ahead : List ℕ) (s : Origin)
+    (b : Behind) where
+  -- its past holds: that of the side over the session, and what the filters made of it
+  abbrev pub HookedHolds : DownPast → Type 0
+  HookedHolds p =
+      IsHooked (DownHolds link ahead b.side s) allows s.head.method b.seen b.mark b.first b.of_head
+      b.at_first b.ended false b.refused b.stood b.stopped p
+
+module _ (link : LinkState) (ahead : List ℕ) (s : Origin) (b : Behind) where
+  -- it answers for the error
+  abbrev pub HookedBlames : DownPast → Error → Type 0
+  HookedBlames p e =
+      BlamesOver (DownHolds link ahead b.side s) (λ r why. ClientBlames s r link why) b.stopped p e
+
+  -- it refuses these tasks with the error
+  abbrev pub HookedRefuses : DownPast → List HttpTask → Error → Type 0
+  HookedRefuses p left e =
+      RefusesOver (DownHolds link ahead b.side s)
+      (λ r tasks why. ClientRefuses s r link b.side.told tasks why) b.of_head b.stood b.stand
+      b.refused b.stopped b.first b.seen.log p left e
+
+  -- it cannot end the response, with the error
+  abbrev pub HookedCannotEnd : DownPast → Error → Type 0
+  HookedCannotEnd p e =
+      BlamesOver (DownHolds link ahead b.side s)
+      (λ r why. ClientBlames s r link why ⊎ CannotEnd s r b.side.told why) b.stopped p e
+
+-- the client's side told no error; or this one alone, and no filter stopped the side over it
+abbrev pub TellsAlone : Behind → Error → Type 0
+TellsAlone b e =
+    (b.side.told.errors ≡ 0)
+    ⊎ ((b.side.told.errors ≡ 1) × (b.side.told.last ≡ Some e) × (b.stopped ≡ None))
+
+module _ {L : Type 0} (state : L → LinkState) (start_at : L → LinkStart) (s : Origin)
+    (up : PeerSide L) where
+  -- the past of the peer's side holds
+  abbrev pub PeerHolds : UpPast → Type 0
+  PeerHolds q = IsPeerSide s (start_at up.client.link) (state up.client.link) up q
+
+  -- the peer's side answers for the error
+  abbrev pub PeerSideBlames : UpPast → Error → Type 0
+  PeerSideBlames q e =
+      (head : RequestHead) × (head_in up.client.request.request ≡ Some head)
+      × PeerBlames (start_at up.client.link) (state up.client.link) head s.asked q e
+
+-- the core of an exchange behind filters
+abbrev pub hooked_core : {L : Type 0} → Duplex → Behind → PeerSide L → State
+hooked_core duplex b up = core duplex (hooked_state b) (peer.state_of up)

@@ -1,0 +1,41 @@
+//! What passed in an exchange behind an application's filters, as one order: laws over the pasts of
+//! both sides alone, which no turn proves.
+#![tactic(auto)]
+
+ghost use Rattle.relay_calls.specs.Log.{IsAllowed};
+ghost use Rattle.relay_filters.specs.Response.{SomeAllow};
+ghost use Rattle.relay_hooked.specs.Laws.{IsAttemptSoFar, IsCaused, IsFinishing, IsInOrderSoFar, IsToldSoFar};
+
+use relay_hooks::ProxyHttp;
+use relay_links::ByteLink;
+
+/// What passed between a client's side behind the filters of that application and a peer's side is
+/// an attempt: each side was given the front of what the other put.
+pub fn attempt_so_far<SV: ProxyHttp, L: ByteLink>(app: &SV)
+    ensures attempt { IsAttemptSoFar L.state L.start
+        (IsAllowed (SV.allows app.now) (SomeAllow SV.Modules.allows)) }
+    // And it is told by both links.
+    ensures told { IsToldSoFar L.state L.start
+        (IsAllowed (SV.allows app.now) (SomeAllow SV.Modules.allows)) }
+{}
+
+/// And it is in order, by the bytes that passed and by the calls of the filters, where the client's
+/// writer refuses nothing that they made.
+pub fn order_so_far<SV: ProxyHttp, L: ByteLink>(app: &SV)
+    ensures { IsInOrderSoFar L.state L.start
+        (IsAllowed (SV.allows app.now) (SomeAllow SV.Modules.allows)) }
+{}
+
+/// Where it failed with an error, that has its cause in what passed, by the bytes and by the calls.
+pub fn failure_caused<SV: ProxyHttp, L: ByteLink>(app: &SV)
+    ensures { IsCaused L.state L.start
+        (IsAllowed (SV.allows app.now) (SomeAllow SV.Modules.allows)) }
+{}
+
+/// Where it finished, the response was relayed whole, or it was over towards the client before its
+/// end was given to the filters; and the request was sent whole as they left it, or what kept it
+/// from that is said.
+pub fn finish_relayed<SV: ProxyHttp, L: ByteLink>(app: &SV)
+    ensures { IsFinishing L.state L.start
+        (IsAllowed (SV.allows app.now) (SomeAllow SV.Modules.allows)) }
+{}
