@@ -33,8 +33,7 @@ abbrev pub state_of_side : ClientSide → DownState
 state_of_side side = state_of side.session side.told side.done side.finished side.broken
 
 -- memory was wanted in a call of a hook. It may have left anything in the client's session, which
--- is
--- neither read nor written from then on
+-- is neither read nor written from then on
 abbrev pub is_lost : Option Fail → Bool
 is_lost None = false
 is_lost (Some fail.OutOfMemory) = true
