@@ -1,6 +1,6 @@
 -- A side whose client's session hooks are lent: what passed by its inner side, which reads and
 -- writes that session, and by the filters, which are shown it.
-use Rattle.std.proofs.Common.{◌≡◌, ℕ, Bool, true, false, ◌||◌, ◌&&◌, if◌then◌else◌, List, [], ◌∷◌, ◌++◌, Option, Some, None, Result, Ok, Err, append-nil, refl, sym, ap, subst, true≢false, ◌∙◌, IsSome, unwrap_or}
+use Rattle.std.proofs.Common.{◌≡◌, ℕ, Bool, true, false, ◌||◌, ◌&&◌, List, [], ◌++◌, Option, Some, None, Ok, Err, append-nil, refl, sym, ap, subst, true≢false, ◌∙◌, IsSome, unwrap_or}
 use Rattle.std.specs.List.{list_any}
 use Rattle.relay_tasks.specs.Head.{RequestHead, new_request}
 use Rattle.relay_tasks.specs.declared.error.Error.{Error}
@@ -22,7 +22,6 @@ use Rattle.relay_hooks.specs.Session.{moment}
 use Rattle.relay_hooks.specs.Standing.{Standing, standing}
 use Rattle.relay_calls.specs.Log.{IsAllowed, Walk}
 use Rattle.relay_calls.proofs.LogLemmas.{Walk-append}
-use Rattle.relay_sides.specs.Client.{IsSide}
 use Rattle.relay_sides.specs.Lent.{SameButHead}
 use Rattle.relay_sides.specs.declared.client_side.ClientSide.{ClientSide}
 use Rattle.relay_sides.proofs.LentLemmas.{IsSide-lent}
@@ -99,8 +98,8 @@ module _ (inner : DownPast → Type 0) (allows : Standing → LogEntry → Type 
     (seen : Seen) (c c' : HttpSession) (mark first : ℕ) (oh a ended u rf stood : Bool)
     (st : Option Fail) (p : DownPast) (known : is_lost st ≡ false) (moves : MovesOn c c')
     (h : IsHooked inner allows method (seen_by seen c) mark first oh a ended u rf stood st p) where
-  pub walks_to : Walk allows h.logged.from h.own (standing None false (moment (seen_by seen c')
-  mark))
+  pub walks_to : Walk allows h.logged.from h.own (standing None false
+      (moment (seen_by seen c') mark))
   walks_to =
       let before = standing None false (moment (seen_by seen c) mark) in
       let behind = standing None false (moment (seen_by seen c') mark) in

@@ -1,17 +1,14 @@
 -- The client's own session moves on between calls of hooks: its head stands, and a final head that
 -- was queued stays so.
-use Rattle.std.proofs.Common.{◌≡◌, ℕ, Bool, true, false, if◌then◌else◌, List, [], ◌∷◌, ◌++◌, Option, None, IsSome, append-nil, append_assoc, inl, inr, refl, sym, ap, subst, true≢false, ◌∙◌}
+use Rattle.std.proofs.Common.{◌≡◌, ℕ, Bool, true, false, List, [], ◌∷◌, ◌++◌, Option, append-nil, append_assoc, inl, inr, refl, sym, ap, subst, true≢false, ◌∙◌}
 use Rattle.std.proofs.lemmas.Bool.{cases_Bool}
 use Rattle.relay_tasks.specs.declared.fault.Fault.{Fault}
-use Rattle.relay_tasks.specs.declared.log.LogEntry.{LogEntry}
 use Rattle.relay_tasks.specs.declared.task.HttpTask.{HttpTask}
 use Rattle.relay_tasks.specs.declared.task.HttpTask.TheVariants as task
-use Rattle.relay_h1.specs.BodyWire.{after_piece, is_short}
 use Rattle.relay_h1.specs.declared.framing.Framing.{Framing}
 use Rattle.relay_links.specs.Link.{LinkState}
 use Rattle.relay_session.specs.Asked.{request_of}
-use Rattle.relay_session.specs.Reading.{head_of}
-use Rattle.relay_session.specs.Response.{Holds, HoldsOn, has_head}
+use Rattle.relay_session.specs.Response.{HoldsOn, has_head}
 use Rattle.relay_session.specs.TaskWire.{Sent, bytes_of, ends_with, piece_at, piece_sent, task_sent, wire}
 use Rattle.relay_session.specs.declared.session.HttpSession.{HttpSession}
 use Rattle.relay_session.specs.declared.task_text.Place.{Place}

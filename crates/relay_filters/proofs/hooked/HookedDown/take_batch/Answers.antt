@@ -1,6 +1,6 @@
 -- A batch passes its filters, which were lent the client's session, and the inner side takes it; or
 -- one of them refuses it.
-use Rattle.std.proofs.Common.{refl, sym, ap, ◌∙◌}
+use Rattle.std.proofs.Common.{refl, sym}
 use Rattle.relay_filters.proofs.LentSide.{lent_batch, lent_fails, lent_holds, lent_refused, takes_head, takes_on}
 use Rattle.relay_filters.proofs.SideLemmas.{alone_at_once, at_once, true_is}
 use Rattle.relay_filters.proofs.StateLemmas.{fails_batch, queues_batch, refuses_batch}
