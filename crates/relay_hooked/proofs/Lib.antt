@@ -4,3 +4,4 @@ pub mod HalfLemmas
 pub mod OrderLemmas
 pub mod FinishLemmas
 pub mod FailLemmas
+pub mod NeutralLemmas
