@@ -1,10 +1,8 @@
 -- Filters that change nothing leave an order as it is without them.
 --
 --   as_without   from IsInOrder and ChangesNothing: IsInOrder of relay_attempt
-use Rattle.std.proofs.Common.{◌≡◌, ℕ, Bool, true, false, not, ◌==◌, ◌⊎◌, inl, inr, List, [], ◌∷◌, ◌++◌, length, map, filter, refl, sym, ap, subst, ◌∙◌, append_assoc, append-nil, arith, Option, Some, None, if◌then◌else◌}
-use Rattle.std.specs.Prelude.{◌||◌, ◌&&◌, codes, cond, is_some, option_to_list, unwrap_or}
-use Rattle.std.specs.List.{list_any}
-use Rattle.std.specs.Str.{bytes_eq}
+use Rattle.std.proofs.Common.{◌≡◌, ℕ, Bool, true, false, not, ◌==◌, inl, inr, List, [], ◌∷◌, ◌++◌, length, map, filter, refl, sym, ap, subst, ◌∙◌, append_assoc, append-nil, arith, Option, Some, None, if◌then◌else◌}
+use Rattle.std.specs.Prelude.{◌||◌, ◌&&◌, cond, is_some, option_to_list, unwrap_or}
 use Rattle.std.proofs.lemmas.Bool.Decides.{nat_tests}
 use Rattle.std.proofs.lemmas.List.{map-append}
 use Rattle.relay_tasks.specs.declared.error.Error.{Error}
@@ -15,27 +13,23 @@ use Rattle.relay_tasks.specs.declared.log.LogEntry.{LogEntry}
 use Rattle.relay_tasks.specs.declared.task.HttpTask.{HttpTask}
 use Rattle.relay_tasks.specs.declared.task.HttpTask.TheVariants as task
 use Rattle.relay_tasks.specs.Head.{Fields, ResponseHead}
-use Rattle.relay_tasks.specs.Task.{is_end}
 use Rattle.relay_h1.specs.Body.{ended_text}
-use Rattle.relay_h1.specs.ClientHead.{chunked_head, lacks_framing}
+use Rattle.relay_h1.specs.ClientHead.{chunked_head}
 use Rattle.relay_peer.specs.Body.{IsFrontOf, body_of}
-use Rattle.relay_peer.proofs.FrontLemmas.{front_then, same_front}
+use Rattle.relay_peer.proofs.FrontLemmas.{front_then}
 use Rattle.relay_session.specs.Asked.{asks_of}
-use Rattle.relay_session.specs.declared.task_text.Asks.{Asks}
 use Rattle.relay_session.specs.declared.task_text.Asks.TheVariants as asks
 use Rattle.relay_core.specs.Past.{Origin}
 use Rattle.relay_core.specs.Piece.{is_empty}
 use Rattle.relay_modules.specs.Filtering.{ended_by}
 use Rattle.relay_modules.specs.Module.{piece_or}
-use Rattle.relay_calls.specs.Log.{modules_in, requests_in, responses_in}
+use Rattle.relay_calls.specs.Log.{requests_in}
 use Rattle.relay_sides.specs.Filtered.{handed, is_head_request}
 use Rattle.relay_sides.proofs.ClientPast.{body_of-append}
 use Rattle.relay_sides.proofs.FilterLemmas.{one_test}
 use Rattle.relay_filters.specs.Chain.{AllPass, Called, ModuleChain, PassedModules, TaskChain, framed, method_of}
-use Rattle.relay_filters.specs.Request as request
 use Rattle.relay_filters.specs.Request.{bytes_in, given_to, has_piece, is_end_by, passed, passes, put_in_item}
 use Rattle.relay_filters.specs.Response.{MakesOf}
-use Rattle.relay_attempt.specs.Agrees.{AsksAlike}
 use Rattle.relay_attempt.specs.Order as without
 use Rattle.relay_attempt.specs.Passed.{Passed}
 use Rattle.relay_hooked.specs.Calls.{Filtering}
@@ -246,7 +240,8 @@ passed_none (e ∷ es) = passed_none es
 
 -- a piece puts its bytes
 put_bytes : (left : Option (List ℕ)) (end : Bool)
-    → body_of (option_to_list (if is_empty left && not end then None else Some (task.Body left end)))
+    → body_of
+    (option_to_list (if is_empty left && not end then None else Some (task.Body left end)))
     ≡ unwrap_or left []
 put_bytes None true = refl
 put_bytes None false = refl
@@ -285,8 +280,11 @@ call_bytes e n =
 passed_front : (ended : Bool) (es : List LogEntry) → AreNeutral es
     → IsFrontOf (body_of (passed ended es)) (given_to es)
 passed_front true es n =
-    record { rest = given_to es; joined = ap (λ (l : List HttpTask). body_of l ++ given_to es)
-        (passed_none es) }
+    record {
+      rest = given_to es;
+      joined = ap (λ (l : List HttpTask). body_of l ++ given_to es)
+          (passed_none es);
+    }
 passed_front false [] n = record { rest = []; joined = refl }
 passed_front false (e ∷ es) n =
     let more = passed_front (is_end_by e) es n.1 in

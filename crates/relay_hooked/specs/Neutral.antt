@@ -1,5 +1,5 @@
 -- Filters that change nothing, and what an exchange behind them is.
-use Rattle.std.specs.Prelude.{◌≡◌, ℕ, All, Bool, true, false, List, [], ◌∷◌, None}
+use Rattle.std.specs.Prelude.{◌≡◌, All, Bool, true, false, List, [], ◌∷◌, None}
 use Rattle.std.specs.List.{list_any}
 use Rattle.relay_tasks.specs.declared.log.LogEntry.{LogEntry}
 use Rattle.relay_tasks.specs.Task.{is_end}
@@ -23,8 +23,8 @@ AreNeutral [] = Unit {0}
 AreNeutral (e ∷ es) = LeavesIt e × AreNeutral es
 
 -- the calls change nothing; the head that is sent asks for the response as the client's does, no
--- head of which switches protocols, and one that is to be chunked has room for that; and the request
--- ends for the peer exactly where the client's has ended, with all its bytes
+-- head of which switches protocols, and one that is to be chunked has room for that; and the
+-- request ends for the peer exactly where the client's has ended, with all its bytes
 pub record ChangesNothing
     (f : Filtering) (s : Origin) (p : Passed) (closed : Bool) (order : IsInOrder f s p closed)
     : Type 0 where
