@@ -17,8 +17,8 @@ use Rattle.relay_peer.specs.Faults as faults
 use Rattle.relay_peer.specs.H1Client.{may_keep_client}
 use Rattle.relay_peer.specs.Peer.{AreTasks, IsOnlyFault, IsWriteError, PeerBlames, told_of}
 use Rattle.relay_peer.specs.Peer as peer
-use Rattle.relay_peer.specs.RequestWriting.{sent_wire, short_request}
-use Rattle.relay_peer.specs.ResponseReading.{keeps_at, says}
+use Rattle.relay_peer.specs.RequestWriting.{Sent, Stands, may_keep_writing, sent_wire, short_request}
+use Rattle.relay_peer.specs.ResponseReading.{keeps_at, may_keep_reading, says}
 use Rattle.relay_peer.specs.ResponseReading as reading
 use Rattle.relay_peer.specs.declared.peer_side.PeerSide.{PeerSide}
 use Rattle.relay_peer.specs.declared.response_reading.ResponsePlace.{ResponsePlace}
@@ -33,7 +33,7 @@ use Rattle.relay_session.specs.declared.writing.Outgoing.TheVariants as outgoing
 use Rattle.relay_core.specs.Moves.{EndsLast, Finishes}
 use Rattle.relay_core.specs.Past.{Origin, DownPast, UpPast}
 use Rattle.relay_core.specs.declared.duplex.Duplex.{Duplex}
-use Rattle.relay_core.proofs.BoolLemmas.{and_left, clash, decide}
+use Rattle.relay_core.proofs.BoolLemmas.{and_both, and_left, and_right, clash, decide, not_false}
 use Rattle.relay_core.proofs.TaskLemmas.{any_left}
 use Rattle.relay_hooks.specs.Standing.{Standing}
 use Rattle.relay_sides.specs.Client.{AllPass}
@@ -45,9 +45,16 @@ use Rattle.relay_attempt.proofs.OrderLemmas.{answers_own, front_pass, text_writt
 use Rattle.relay_attempt.proofs.SentLemmas.{IsWritten, stays_over}
 use Rattle.relay_hooked.specs.Attempt.{HookedHalf}
 use Rattle.relay_hooked.specs.Laws.{GoesSoFar, passed_by}
-use Rattle.relay_hooked.specs.Order.{EndsEarly, IsInOrder, IsRelayed, Leaves, MayServe, SendsShort, SendsWhole}
+use Rattle.relay_hooked.specs.Order.{EndsEarly, IsInOrder, IsRelayed, Keeps, Leaves, MayServe, SendsShort, SendsWhole}
 use Rattle.relay_hooked.specs.Order as order
-use Rattle.relay_hooked.specs.Sides.{Behind, filtering, hooked_core, hooked_state}
+use Rattle.relay_attempt.proofs.ServeLemmas.{all_keep, ended_stands, kept_reading, kept_writing}
+use Rattle.relay_calls.specs.Log.{requests_in}
+use Rattle.relay_filters.specs.Request.{ended_by, passed}
+use Rattle.relay_core.specs.Table as core
+use Rattle.relay_core.specs.declared.step.UpKind.{UpKind}
+use Rattle.relay_links.specs.Count.{Rose}
+use Rattle.relay_hooked.proofs.PassedLemmas.{passed_ends}
+use Rattle.relay_hooked.specs.Sides.{Behind, filtering, hooked_core, hooked_state, keeps_link}
 use Rattle.relay_hooked.proofs.HalfLemmas.{hooked_half, one_body, one_ends, own_blames, tasks_came}
 use Rattle.relay_hooked.proofs.OrderLemmas.{attempt_so_far, ends_made, first_batched, order_so_far}
 use Rattle.relay_hooked.proofs.PlaceLemmas.{ends_over, last_in, last_made}
@@ -364,7 +371,7 @@ module _ {L : Type 0} (state : L → LinkState) (start_at : L → LinkStart)
     -- what a finished exchange leaves
     leaves_of : Leaves (filtering b) s (passed_by p q) (state up.client.link)
         (start_at up.client.link) in_order ahead (is_body_done b.side.session.reading)
-        (may_keep_client up.client)
+        (keeps_link duplex up)
     leaves_of =
         let c = so_far.down.holds.passed.client in
         let done = is_body_done b.side.session.reading in
@@ -377,21 +384,84 @@ module _ {L : Type 0} (state : L → LinkState) (start_at : L → LinkStart)
               subst (λ (l : List ℕ). IsWhole (s.ahead ++ p.came) l ahead)
               (sym (one_body c.body done))
               (c.told_whole is);
-          serves = may_serve;
-          faultless = λ kept. so_far.up.peer.calm (kept_unfailed up.client kept);
+          serves = λ kept. may_serve (and_right (core.may_keep duplex.kind duplex) _ kept);
+          faultless = λ kept.
+              so_far.up.peer.calm
+              (kept_unfailed up.client (and_right (core.may_keep duplex.kind duplex) _ kept));
         }
+
+    -- where the request did not end short, and no call failed, no send error is kept
+    unsent : list_any is_end q.read ≡ true → ¬ (SendsShort s q.taken)
+        → ¬ (Rose (start_at up.client.link).faults (state up.client.link).faults)
+        → (error : Option Error) → duplex.send_error ≡ error → duplex.send_error ≡ None
+    unsent ends whole faultless None is = is
+    unsent ends whole faultless (Some e) is = elim (send_error ends e is) [
+      | inl written ↦ absurd (faultless written.rose)
+      | inr short ↦ absurd (whole short)
+    ]
+
+    -- a request that had not ended before its first piece, and has, has an end among its pieces
+    ends_put : b.at_first ≡ false → b.ended ≡ true → list_any is_end p.put ≡ true
+    ends_put fresh ended =
+        let r = so_far.down.request refl in
+        ap (list_any is_end)
+        (r.left ∙ ap (λ (a : Bool). passed a (requests_in so_far.down.own)) fresh)
+        ∙ passed_ends (requests_in so_far.down.own)
+        ∙ sym (r.is_ended ∙ ap (λ (a : Bool). ended_by a (requests_in so_far.down.own)) fresh)
+        ∙ ended
+
+    -- a link that may serve another request is kept
+    keeps_of : Finishes (hooked_core duplex b up) p q → list_any is_end q.read ≡ true
+        → b.at_first ≡ false
+        → Keeps (state up.client.link) (start_at up.client.link) in_order (keeps_link duplex up)
+    keeps_of finishes ends fresh serves faultless whole_sent =
+        let none = unsent ends whole_sent faultless duplex.send_error refl in
+        let u = so_far.up.peer in
+        let stands = subst (λ (x : Sent). Stands x up.client.request.request)
+        (u.queued.unlost (finishes.unlost none)
+        ∙ ap (λ (h : RequestHead). sent_as h q.taken) u.own
+        ∙ ap (λ (ts : List HttpTask). sent_as s.sent ts) (finishes.taken none)) u.so_far.stands in
+        let whole = ended_stands s.sent p.put up.client.request.request stands
+        (ends_put fresh (finishes.request_ended none)) in
+        let over : reading.is_over up.client.response.place ≡ true = sym tasks_are.ended ∙ ends in
+        and_both (core.may_keep duplex.kind duplex) _
+        (ap (λ (k : UpKind). core.may_keep k duplex) so_far.marks.kind
+        ∙ all_keep (core.is_failed duplex.word) (is_none duplex.send_error)
+        duplex.upstream_request_done duplex.upstream_response_done finishes.unfailed
+        (ap (λ (e : Option Error). is_none e) none) (finishes.done none) (response_done ends))
+        (and_both (may_keep_writing up.client.request) _
+        (kept_writing s.sent up.client.request
+        (u.is_head ∙ ap (λ (h : RequestHead). Some h) u.own) serves.asks whole
+        (none_left none finishes))
+        (and_both (may_keep_reading up.client.response) _
+        (kept_reading s.sent.method s.asked (state up.client.link).ended q.got (told_of q.read)
+        (told_of q.read) up.client.response.place up.client.response.ahead tasks_are.so_far.at over
+        serves.response)
+        (not_false up.client.failed (calm none ends))))
+      where
+        response_done : list_any is_end q.read ≡ true → duplex.upstream_response_done ≡ true
+        response_done ends = elim (decide duplex.upstream_response_done) [
+          | inl done ↦ done
+          | inr goes_on ↦ clash (list_any is_end q.read) ends (so_far.unended goes_on)
+        ]
 
     -- so it finishes
     pub finishes_so : Finishes (hooked_core duplex b up) p q
         → ((r : IsRelayed (filtering b) s (passed_by p q) (state up.client.link)
         (start_at up.client.link))
         × Leaves (filtering b) s (passed_by p q) (state up.client.link) (start_at up.client.link)
-        r.order ahead (is_body_done b.side.session.reading) (may_keep_client up.client))
+        r.order ahead (is_body_done b.side.session.reading) (keeps_link duplex up)
+        × (b.at_first ≡ false
+        → Keeps (state up.client.link) (start_at up.client.link) r.order (keeps_link duplex up)))
         ⊎ ((r : EndsEarly (filtering b) s (passed_by p q) (state up.client.link)
         (start_at up.client.link))
         × Leaves (filtering b) s (passed_by p q) (state up.client.link) (start_at up.client.link)
-        r.order ahead (is_body_done b.side.session.reading) (may_keep_client up.client))
+        r.order ahead (is_body_done b.side.session.reading) (keeps_link duplex up))
     finishes_so finishes = elim (decide (list_any is_end p.batched)) [
-      | inl ends ↦ inl (relayed_of finishes ends, leaves_of)
+      | inl ends ↦ inl (
+        relayed_of finishes ends,
+        leaves_of,
+        λ fresh. keeps_of finishes (read_ends ends) fresh,
+      )
       | inr none ↦ inr (early_of finishes none, leaves_of)
     ]

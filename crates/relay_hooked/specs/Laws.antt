@@ -1,10 +1,9 @@
 -- What each exchange behind filters keeps, whatever passed: laws over the pasts of both sides.
-use Rattle.std.specs.Prelude.{ℕ, List, ◌++◌, ◌⊎◌}
+use Rattle.std.specs.Prelude.{◌≡◌, ℕ, false, List, ◌++◌, ◌⊎◌}
 use Rattle.relay_tasks.specs.declared.error.Error.{Error}
 use Rattle.relay_tasks.specs.declared.log.LogEntry.{LogEntry}
 use Rattle.relay_links.specs.Link.{LinkState, LinkStart}
 use Rattle.relay_hooks.specs.Standing.{Standing}
-use Rattle.relay_peer.specs.H1Client.{may_keep_client}
 use Rattle.relay_session.specs.Reading.{is_body_done}
 use Rattle.relay_peer.specs.declared.peer_side.PeerSide.{PeerSide}
 use Rattle.relay_core.specs.Moves.{Finishes, HasReason, SoFar}
@@ -15,8 +14,8 @@ use Rattle.relay_attempt.specs.Attempt.{IsAttempt}
 use Rattle.relay_attempt.specs.Exchange.{AreTold}
 use Rattle.relay_attempt.specs.Passed.{Passed}
 use Rattle.relay_hooked.specs.Attempt.{HookedHalf, PeerHalf}
-use Rattle.relay_hooked.specs.Order.{EndsEarly, FailsWith, IsInOrder, IsRelayed, Leaves}
-use Rattle.relay_hooked.specs.Sides.{Behind, HookedBlames, HookedCannotEnd, HookedHolds, HookedRefuses, PeerHolds, PeerSideBlames, TellsAlone, filtering, hooked_core, hooked_state}
+use Rattle.relay_hooked.specs.Order.{EndsEarly, FailsWith, IsInOrder, IsRelayed, Keeps, Leaves}
+use Rattle.relay_hooked.specs.Sides.{Behind, HookedBlames, HookedCannotEnd, HookedHolds, HookedRefuses, PeerHolds, PeerSideBlames, TellsAlone, filtering, hooked_core, hooked_state, keeps_link}
 
 -- what passed, by the pasts of both sides
 abbrev pub passed_by : DownPast → UpPast → Passed
@@ -64,7 +63,8 @@ module _ {L : Type 0} (state : L → LinkState) (start_at : L → LinkStart)
       → FailsWith (filtering b) s (passed_by p q) link (state up.client.link)
       (start_at up.client.link) b.side.session e
 
-  -- what finished was relayed, or over towards the client early; and what that leaves
+  -- what finished was relayed, or over towards the client early; and what that leaves. Where the
+  -- request had not ended before its first piece, a peer's link that may serve another is kept
   abbrev pub IsFinishing : Type 0
   IsFinishing = (link : LinkState) (ahead : List ℕ) (s : Origin) (b : Behind) (up : PeerSide L)
       (duplex : Duplex) (p : DownPast) (q : UpPast)
@@ -73,8 +73,10 @@ module _ {L : Type 0} (state : L → LinkState) (start_at : L → LinkStart)
       → ((r : IsRelayed (filtering b) s (passed_by p q) (state up.client.link)
       (start_at up.client.link))
       × Leaves (filtering b) s (passed_by p q) (state up.client.link) (start_at up.client.link)
-      r.order ahead (is_body_done b.side.session.reading) (may_keep_client up.client))
+      r.order ahead (is_body_done b.side.session.reading) (keeps_link duplex up)
+      × (b.at_first ≡ false
+      → Keeps (state up.client.link) (start_at up.client.link) r.order (keeps_link duplex up)))
       ⊎ ((r : EndsEarly (filtering b) s (passed_by p q) (state up.client.link)
       (start_at up.client.link))
       × Leaves (filtering b) s (passed_by p q) (state up.client.link) (start_at up.client.link)
-      r.order ahead (is_body_done b.side.session.reading) (may_keep_client up.client))
+      r.order ahead (is_body_done b.side.session.reading) (keeps_link duplex up))

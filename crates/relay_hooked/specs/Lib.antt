@@ -3,3 +3,4 @@ pub mod Order
 pub mod Attempt
 pub mod Sides
 pub mod Laws
+pub mod Neutral

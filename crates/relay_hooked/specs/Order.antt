@@ -11,6 +11,7 @@ use Rattle.relay_tasks.specs.declared.task.HttpTask.TheVariants as task
 use Rattle.relay_tasks.specs.Head.{ResponseHead}
 use Rattle.relay_tasks.specs.Task.{is_end}
 use Rattle.relay_links.specs.Link.{LinkState, LinkStart}
+use Rattle.relay_links.specs.Count.{Rose}
 use Rattle.relay_links.specs.Told.{Since}
 use Rattle.relay_h1.specs.BodyWire.{after_pieces, body_text, is_short}
 use Rattle.relay_h1.specs.Options.{closes}
@@ -276,3 +277,11 @@ pub record Leaves
   pub behind : done ≡ true → IsWhole (asked s p) (body_of order.came) ahead
   pub serves : keeps ≡ true → MayServe s p link.ended order.read
   pub faultless : keeps ≡ true → link.faults ≡ start.faults
+
+-- a link that may serve another request is kept, where no call of it failed and the request did not
+-- end short
+abbrev pub Keeps : {f : Filtering} {s : Origin} {p : Passed} (link : LinkState) → LinkStart
+    → IsInOrder f s p link.ended → Bool → Type 0
+Keeps {s = s} {p = p} link start order keeps =
+    MayServe s p link.ended order.read → ¬ (Rose start.faults link.faults)
+    → ¬ (SendsShort s order.taken) → keeps ≡ true

@@ -1,5 +1,5 @@
 -- Both sides of an exchange behind filters, by what a struct of it would hold.
-use Rattle.std.specs.Prelude.{◌≡◌, ◌⊎◌, ℕ, Bool, false, List, Option, Some, None}
+use Rattle.std.specs.Prelude.{◌≡◌, ◌⊎◌, ◌&&◌, ℕ, Bool, false, List, Option, Some, None}
 use Rattle.relay_tasks.specs.declared.error.Error.{Error}
 use Rattle.relay_tasks.specs.declared.error.Fail.{Fail}
 use Rattle.relay_tasks.specs.declared.log.LogEntry.{LogEntry}
@@ -8,12 +8,13 @@ use Rattle.relay_tasks.specs.Head.{RequestHead}
 use Rattle.relay_links.specs.Link.{LinkState, LinkStart}
 use Rattle.relay_core.specs.Down.{DownState}
 use Rattle.relay_core.specs.Past.{Origin, DownPast, UpPast}
-use Rattle.relay_core.specs.Table.{State, core}
+use Rattle.relay_core.specs.Table.{State, core, may_keep}
 use Rattle.relay_core.specs.declared.duplex.Duplex.{Duplex}
 use Rattle.relay_core.specs.declared.told.Told.{Told}
 use Rattle.relay_modules.specs.declared.seen.Seen.{Seen}
 use Rattle.relay_hooks.specs.Standing.{Standing}
 use Rattle.relay_peer.specs.RequestWriting.{head_in}
+use Rattle.relay_peer.specs.H1Client.{may_keep_client}
 use Rattle.relay_peer.specs.Peer.{IsPeerSide, PeerBlames}
 use Rattle.relay_peer.specs.Peer as peer
 use Rattle.relay_peer.specs.declared.peer_side.PeerSide.{PeerSide}
@@ -99,6 +100,10 @@ module _ {L : Type 0} (state : L → LinkState) (start_at : L → LinkStart) (s 
   PeerSideBlames q e =
       (head : RequestHead) × (head_in up.client.request.request ≡ Some head)
       × PeerBlames (start_at up.client.link) (state up.client.link) head s.asked q e
+
+-- the peer's link may be kept: both the duplex and the client of the peer say so
+abbrev pub keeps_link : {L : Type 0} → Duplex → PeerSide L → Bool
+keeps_link duplex up = may_keep duplex.kind duplex && may_keep_client up.client
 
 -- the core of an exchange behind filters
 abbrev pub hooked_core : {L : Type 0} → Duplex → Behind → PeerSide L → State

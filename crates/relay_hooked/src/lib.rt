@@ -4,6 +4,7 @@
 
 ghost use Rattle.relay_calls.specs.Log.{IsAllowed};
 ghost use Rattle.relay_filters.specs.Response.{SomeAllow};
+ghost use Rattle.relay_hooked.specs.Neutral.{IsAsWithout};
 ghost use Rattle.relay_hooked.specs.Laws.{IsAttemptSoFar, IsCaused, IsFinishing, IsInOrderSoFar, IsToldSoFar};
 
 use relay_hooks::ProxyHttp;
@@ -38,4 +39,9 @@ pub fn failure_caused<SV: ProxyHttp, L: ByteLink>(app: &SV)
 pub fn finish_relayed<SV: ProxyHttp, L: ByteLink>(app: &SV)
     ensures { IsFinishing L.state L.start
         (IsAllowed (SV.allows app.now) (SomeAllow SV.Modules.allows)) }
+{}
+
+/// An order behind filters that change nothing is one without filters.
+pub fn neutral_alike()
+    ensures { IsAsWithout }
 {}
