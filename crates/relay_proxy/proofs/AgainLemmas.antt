@@ -86,11 +86,11 @@ keep_head request at [] has = has
 keep_head request at (one ∷ tasks) has =
     keep_head request (task_sent request at one).place tasks (keeps_head request at one has)
 
--- what is sent leaves no final head, and counts no byte of a body
+-- what is sent leaves no final head, counts no byte of a body, and closes nothing
 abbrev IsAhead : Sent → Type 0
-IsAhead sent = (sent.place ≡ place.NoHead) × (sent.counted ≡ 0)
+IsAhead sent = (sent.place ≡ place.NoHead) × (sent.counted ≡ 0) × (sent.closes ≡ false)
 
--- a task before the final head leaves none and counts nothing, or it is one
+-- a task before the final head is such, or it is one
 task_ahead : (request : Request) (one : HttpTask)
     → IsAhead (task_sent request place.NoHead one)
     ⊎ (has_head (task_sent request place.NoHead one).place ≡ true)
@@ -100,7 +100,7 @@ task_ahead request (task.Header head ends) =
     by_framing : (framed : Option Framing)
         → IsAhead (framed_head_sent (shown request head) ends framed)
         ⊎ (has_head (framed_head_sent (shown request head) ends framed).place ≡ true)
-    by_framing None = inl (refl, refl)
+    by_framing None = inl (refl, refl, refl)
     by_framing (Some framing) = inr (piece_has framing [] ends)
 
     by_status : (b : Bool)
@@ -108,13 +108,13 @@ task_ahead request (task.Header head ends) =
         else framed_head_sent (shown request head) ends (framing_of request head))
         ⊎ (has_head (if b then informed request head
         else framed_head_sent (shown request head) ends (framing_of request head)).place ≡ true)
-    by_status true = inl (refl, refl)
+    by_status true = inl (refl, refl, refl)
     by_status false = by_framing (framing_of request head)
-task_ahead request (task.Body piece ends) = inl (refl, refl)
-task_ahead request (task.UpgradedBody piece ends) = inl (refl, refl)
-task_ahead request (task.Trailer fields) = inl (refl, refl)
-task_ahead request task.Done = inl (refl, refl)
-task_ahead request (task.Failed error) = inl (refl, refl)
+task_ahead request (task.Body piece ends) = inl (refl, refl, refl)
+task_ahead request (task.UpgradedBody piece ends) = inl (refl, refl, refl)
+task_ahead request (task.Trailer fields) = inl (refl, refl, refl)
+task_ahead request task.Done = inl (refl, refl, refl)
+task_ahead request (task.Failed error) = inl (refl, refl, refl)
 
 -- tasks behind which no final head was queued count no byte of a body
 pub uncounted : (request : Request) (tasks : List HttpTask)
@@ -129,10 +129,30 @@ uncounted request (one ∷ tasks) none =
         → (wire request place.NoHead tasks).counted ≡ 0)
         → has_head (wire request sent.place tasks).place ≡ false
         → sent.counted + (wire request sent.place tasks).counted ≡ 0
-    on sent (inl (at, zero)) behind none =
+    on sent (inl (at, zero, shut)) behind none =
         let rest : has_head (wire request place.NoHead tasks).place ≡ false =
         subst (λ (k : Place). has_head (wire request k tasks).place ≡ false) at none in
         omega (arith, zero, ap (λ (k : Place). (wire request k tasks).counted) at, behind rest)
+    on sent (inr has) behind none =
+        absurd (true≢false (sym (keep_head request sent.place tasks has) ∙ none))
+
+-- nor do they close the connection
+unclosed : (request : Request) (tasks : List HttpTask)
+    → has_head (wire request place.NoHead tasks).place ≡ false
+    → (wire request place.NoHead tasks).closes ≡ false
+unclosed request [] none = refl
+unclosed request (one ∷ tasks) none =
+    on (task_sent request place.NoHead one) (task_ahead request one) (unclosed request tasks) none
+  where
+    on : (sent : Sent) → IsAhead sent ⊎ (has_head sent.place ≡ true)
+        → (has_head (wire request place.NoHead tasks).place ≡ false
+        → (wire request place.NoHead tasks).closes ≡ false)
+        → has_head (wire request sent.place tasks).place ≡ false
+        → (sent.closes || (wire request sent.place tasks).closes) ≡ false
+    on sent (inl (at, zero, shut)) behind none =
+        let rest : has_head (wire request place.NoHead tasks).place ≡ false =
+        subst (λ (k : Place). has_head (wire request k tasks).place ≡ false) at none in
+        rw (shut, at) (behind rest)
     on sent (inr has) behind none =
         absurd (true≢false (sym (keep_head request sent.place tasks has) ∙ none))
 
@@ -172,11 +192,16 @@ holds_none response tasks taken holds unqueued =
         let zero : text.counted ≡ 0 =
         sym (ap (λ (k : Sent). k.counted) text.wire.is)
         ∙ uncounted response.request tasks (ap (λ (k : Place). has_head k) stands) in
+        let shut : false ≡ response.closes =
+        sym (unclosed response.request tasks (ap (λ (k : Place). has_head k) stands))
+        ∙ ap (λ (k : Sent). k.closes) text.wire.is in
         record {
           counted = 0;
-          wire = subst (λ (k : Place). IsWire response.request []
-              (record { text = []; counted = 0; place = k })) (sym unqueued.at)
-              (record { is = refl; body = tt });
+          wire = subst (λ (b : Bool). IsWire response.request []
+              (record { text = []; counted = 0; closes = b; place = response.place })) shut
+              (subst (λ (k : Place). IsWire response.request []
+              (record { text = []; counted = 0; closes = false; place = k })) (sym unqueued.at)
+              (record { is = refl; body = tt }));
           counts = text.counts ∙ ap (λ (n : ℕ). min n last_count) zero;
         }
 

@@ -18,6 +18,7 @@ use Rattle.relay_links.specs.declared.link.Put.{Put}
 use Rattle.relay_links.specs.declared.link.Put.TheVariants as put
 use Rattle.relay_h1.specs.Verdict.{IsOpen}
 use Rattle.relay_h1.proofs.VerdictLemmas.{HasRequest-IsOpen}
+use Rattle.relay_session.specs.Reading.{is_body_done}
 use Rattle.relay_session.specs.Response.{pending, WritesPending, WritesQueue}
 use Rattle.relay_session.specs.declared.session.HttpSession.{HttpSession}
 use Rattle.relay_session.specs.declared.writing.Outgoing.{Outgoing}
@@ -34,7 +35,8 @@ use Rattle.relay_valid.proofs.ValidLemmas.{never_fails}
 use Rattle.relay_proxy.specs.Ahead.{IsOwedAhead}
 use Rattle.relay_proxy.specs.Answer.{owed_text, past_at, WaitsOf}
 use Rattle.relay_proxy.specs.Endings.{IsInOrder, IsGiven, IsGivenAhead, AttemptsFailed, EndsAhead, IsPartAhead, IsPartRefused, FailsToWrite, IsFailedAttempt, IsUnsentAttempt, IsHalfRefused, IsPart, HasFailed, Misses, owed_by, EndsWith}
-use Rattle.relay_proxy.specs.Owed.{Owes, HasAttempts, IsAnswering, outcome_owed, outcome_failed}
+use Rattle.relay_proxy.specs.Owed.{Owes, HasAttempts, IsAnswering, IsAnsweredCalmly, TellsAgain, TellsOwed, outcome_written, outcome_failed}
+use Rattle.relay_proxy.specs.Reuse.{goes_back_with}
 use Rattle.relay_proxy.specs.Passed.{answered, World, Start, origin_of, asked, TellsClient}
 use Rattle.relay_proxy.specs.Phases.{PhaseHolds, RunSoFar}
 use Rattle.relay_proxy.specs.Relayable.{IsAccepted}
@@ -53,6 +55,7 @@ use Rattle.relay_proxy.proofs.OverLemmas.{over_on}
 use Rattle.relay_proxy.proofs.OpenHead.{turns_down_open, exchange_open}
 use Rattle.relay_proxy.proofs.Tells.{Rose-le, client_took, client_still, take_whole, take_rest}
 use Rattle.relay_proxy.proofs.CutLemmas.{cut_next}
+use Rattle.relay_proxy.proofs.ReuseLemmas.{may_exactly}
 
 -- the client took some
 pub taken_of : (output : Outgoing) (before after : LinkState) (n : ℕ) (left : Outgoing)
@@ -72,6 +75,12 @@ moved_or_ended state start_at w x phase next did (inl is) moved =
     subst (λ (d : RunStep). HasCause state start_at w x phase next d) (sym is) (moved is)
 moved_or_ended {L} {C} state start_at w x phase next did (inr is) moved =
     subst (λ (d : RunStep). HasCause state start_at w x phase next d) (sym is) tt
+
+-- a session of which some was written is another by its output alone
+abbrev pub WrittenOf : HttpSession → HttpSession → Type 0
+WrittenOf old new = new ≡ record old {
+  writing = record old.writing { output = new.writing.output };
+}
 
 -- ---- a failed exchange
 
@@ -205,10 +214,11 @@ ends_missed s p w link start keep e text (Misses.ahead_of_it refused is) given =
     })
 
 -- an answer is no end by its turns
-pub owed_going : (owed : Owed) → outcome_owed owed ≢ outcome.TurnLimit
-owed_going (Refused error) limit = cc
-owed_going (Ahead why) limit = cc
-owed_going (Served e) limit = cc
+written_going : (owed : Owed) (again : Bool) → outcome_written owed again ≢ outcome.TurnLimit
+written_going (Refused error) again limit = cc
+written_going (Ahead None) again limit = cc
+written_going (Ahead (Some e)) again limit = cc
+written_going (Served e) again limit = cc
 
 pub failed_going : (owed : Owed) (fault : Fault) → outcome_failed owed fault ≢ outcome.TurnLimit
 failed_going (Refused error) fault limit = cc
@@ -227,7 +237,7 @@ owed_head why text (IsOwedAhead.by_error head e t has stopped told is) = (head, 
 owed_head why text (IsOwedAhead.by_purge head e t has order same is) = (head, has)
 
 -- what hooks owe does not depend on what was written
-ahead_on : (s : Start) (p : Passed) (written : List ℕ) (why : Option Error) (text : List ℕ)
+abbrev ahead_on : (s : Start) (p : Passed) (written : List ℕ) (why : Option Error) (text : List ℕ)
     → IsOwedAhead s p why text → IsOwedAhead s (past_at p written) why text
 ahead_on s p written why text
     (IsOwedAhead.by_answer head tasks t has order is_answer is) =
@@ -255,6 +265,35 @@ ahead_on s p written why text (IsOwedAhead.by_purge head e t has order same is) 
       relayable = has.relayable;
     }) order same is
 
+-- ---- whether the client may ask for more
+
+-- the session that a write leaves tells the same
+tells_as : {s : Start} {p : Passed} (written : List ℕ) (why : Option Error) (text : List ℕ)
+    (owes : IsOwedAhead s p why text) (session session' : HttpSession) → WrittenOf session session'
+    → TellsAgain owes session → TellsAgain (ahead_on s p written why text owes) session'
+tells_as written why text (IsOwedAhead.by_answer head tasks t has order is_answer is) session
+    session' same tells = record {
+      request = ap (λ (h : HttpSession). h.writing.request) same ∙ tells.request;
+      done = ap (λ (h : HttpSession). is_body_done h.reading) same ∙ tells.done;
+      place = ap (λ (h : HttpSession). h.writing.place) same ∙ tells.place;
+      closes = ap (λ (h : HttpSession). h.writing.closes) same ∙ tells.closes;
+    }
+tells_as written why text (IsOwedAhead.by_error head e t has stopped told is) session session' same
+    tells =
+    tt
+tells_as written why text (IsOwedAhead.by_purge head e t has order because is) session session' same
+    tells =
+    tt
+
+calmly_on : {s : Start} {p : Passed} (written : List ℕ) (w x : World) (why : Option Error)
+    (text : List ℕ) (owes : IsOwedAhead s p why text) (session session' : HttpSession)
+    → WrittenOf session session' → x.client.faults ≡ w.client.faults
+    → IsAnsweredCalmly w why owes session
+    → IsAnsweredCalmly x why (ahead_on s p written why text owes) session'
+calmly_on written w x None text owes session session' same calm (tells, still) =
+    (tells_as written None text owes session session' same tells, calm ∙ still)
+calmly_on written w x (Some e) text owes session session' same calm tells = tt
+
 -- ---- what is owed
 
 -- where some waits, the client was not given all of it
@@ -268,6 +307,17 @@ waits_left output written text waits whole = absurd (omega (
   ap length whole,
 ))
 
+-- and there is some of it
+waits_some : (output : Outgoing) (written text : List ℕ) → WaitsOf output written text
+    → text ≢ []
+waits_some output written text waits none = absurd (omega (
+  arith,
+  waits.some,
+  length-append written waits.left,
+  ap length waits.joined,
+  ap length none,
+))
+
 -- and it was given the front
 pub waits_front : (output : Outgoing) (written text : List ℕ) → WaitsOf output written text
     → IsFrontOf written text
@@ -275,7 +325,7 @@ waits_front output written text waits = record { rest = waits.left; joined = wai
 
 module _ {L : Type 0} (state : L → LinkState) (start_at : L → LinkStart) where
   -- what the client is owed is so still after a write of its link
-  owes_on : (s : Start) (p : Passed) (written : List ℕ) (w x : World) (own : List (Returned L))
+  abbrev owes_on : (s : Start) (p : Passed) (written : List ℕ) (w x : World) (own : List (Returned L))
       (owed : Owed) (text : List ℕ) → WrittenTo w.client x.client
       → x.connect_faults ≡ w.connect_faults → Owes state start_at s p w own owed text
       → Owes state start_at s (past_at p written) x own owed text
@@ -309,6 +359,22 @@ module _ {L : Type 0} (state : L → LinkState) (start_at : L → LinkStart) whe
   owes_on s p written w x (r ∷ own) (Ahead why) text to same owes = absurd owes
   owes_on s p written w x (r ∷ own) (Served e) text to same owes =
       misses_on s p written w.client x.client (state r.link) (start_at r.link) r.keep e text to owes
+
+  -- and its session tells the same of its client
+  told_on : (s : Start) (p : Passed) (written : List ℕ) (w x : World) (own : List (Returned L))
+      (owed : Owed) (text : List ℕ) (to : WrittenTo w.client x.client)
+      (same : x.connect_faults ≡ w.connect_faults) (owes : Owes state start_at s p w own owed text)
+      (session session' : HttpSession) → WrittenOf session session'
+      → x.client.faults ≡ w.client.faults
+      → TellsOwed state start_at s p w own owed text owes session
+      → TellsOwed state start_at s (past_at p written) x own owed text
+      (owes_on s p written w x own owed text to same owes) session'
+  told_on s p written w x [] (Refused error) text to same owes session session' shows calm tells =
+      tt
+  told_on s p written w x [] (Ahead why) text to same owes session session' shows calm tells =
+      calmly_on written w x why text owes.0 session session' shows calm tells
+  told_on s p written w x [] (Served e) text to same owes session session' shows calm tells = tt
+  told_on s p written w x (r ∷ own) owed text to same owes session session' shows calm tells = tt
 
   -- the attempts are those that they were
   attempts_on : (s : Start) (p : Passed) (written : List ℕ) (own : List (Returned L)) (owed : Owed)
@@ -409,20 +475,42 @@ module _ {L : Type 0} (state : L → LinkState) (start_at : L → LinkStart) whe
   }
 
   -- hooks ended the request, for an error or for none, and its client was given what it is owed, or
-  -- a write failed
+  -- a write failed; it ends with that error
   pub ends_ahead : (s : Start) (p : Passed) (w : World) (own : List (Returned L))
-      (why told : Option Error) (text : List ℕ) (attempts : List AttemptRecord)
-      → Owes state start_at s p w own (Ahead why) text → IsGivenAhead s p w why text told
+      (why : Option Error) (e : Error) (text : List ℕ) (attempts : List AttemptRecord)
+      → Owes state start_at s p w own (Ahead why) text → IsGivenAhead s p w why text (Some e)
       → HasAttempts state start_at s p own (Ahead why) attempts
-      → EndsWith state start_at s p w own attempts (outcome.Served told false)
+      → EndsWith state start_at s p w own attempts (outcome.Served (Some e) false)
   unfolding ended_ahead
-  ends_ahead s p w [] None None text attempts owes given made =
-      ((ended_ahead s p w None None text owes given, refl), made)
-  ends_ahead s p w [] (Some e) None text attempts owes given made = absurd (cc given.0)
-  ends_ahead s p w [] why (Some e) text attempts owes given made =
+  ends_ahead s p w [] why e text attempts owes given made =
       let ends = ended_ahead s p w why (Some e) text owes given in
       ((inr ends, refl), AttemptsFailed.ahead ends made)
-  ends_ahead s p w (r ∷ own) why told text attempts owes given made = absurd owes
+  ends_ahead s p w (r ∷ own) why e text attempts owes given made = absurd owes
+
+  -- hooks answered it, and its client was given all of that
+  ends_answered : (s : Start) (p : Passed) (w : World) (own : List (Returned L)) (text : List ℕ)
+      (attempts : List AttemptRecord) (session : HttpSession)
+      (owes : Owes state start_at s p w own (Ahead None) text) → p.written ≡ text → text ≢ []
+      → TellsOwed state start_at s p w own (Ahead None) text owes session
+      → HasAttempts state start_at s p own (Ahead None) attempts
+      → EndsWith state start_at s p w own attempts
+      (outcome.Served None (goes_back_with session w.ahead))
+  ends_answered s p w [] text attempts session owes whole some tells made = (
+    record {
+      ends = record {
+        why = None;
+        text = text;
+        owed = owes.0;
+        given = inl (refl, whole);
+        unsent = owes.1;
+        untreated = owes.2;
+      };
+      calm = tells.1;
+      goes_back = may_exactly None text owes.0 session w.ahead refl some tells.0;
+    },
+    made,
+  )
+  ends_answered s p w (r ∷ own) text attempts session owes whole some tells made = absurd owes
 
   -- the request was not brought to an end, and a part was written
   pub ends_part : (s : Start) (p : Passed) (w : World) (own : List (Returned L)) (owed : Owed)
@@ -482,20 +570,23 @@ module _ {L : Type 0} (state : L → LinkState) (start_at : L → LinkStart) whe
 
   -- the answer was written whole
   ends_whole : (s : Start) (p : Passed) (w : World) (own : List (Returned L)) (owed : Owed)
-      (text : List ℕ) (attempts : List AttemptRecord)
-      → Owes state start_at s p w own owed text → p.written ≡ text
+      (text : List ℕ) (attempts : List AttemptRecord) (session : HttpSession)
+      (owes : Owes state start_at s p w own owed text) → p.written ≡ text → text ≢ []
+      → TellsOwed state start_at s p w own owed text owes session
       → HasAttempts state start_at s p own owed attempts
-      → EndsWith state start_at s p w own attempts (outcome_owed owed)
-  ends_whole s p w [] (Refused error) text attempts owes whole made = (
+      → EndsWith state start_at s p w own attempts
+      (outcome_written owed (goes_back_with session w.ahead))
+  ends_whole s p w [] (Refused error) text attempts session owes whole some tells made = (
     inl (record { answer = text; turned_down = owes.0; whole = whole; unsent = owes.1 }),
     made,
   )
-  ends_whole s p w (r ∷ own) (Refused error) text attempts owes whole made = absurd owes
-  ends_whole s p w own (Ahead None) text attempts owes whole made =
-      ends_ahead s p w own None None text attempts owes (inl (refl, whole)) made
-  ends_whole s p w own (Ahead (Some e)) text attempts owes whole made =
-      ends_ahead s p w own (Some e) (Some e) text attempts owes (refl, inl whole) made
-  ends_whole s p w own (Served e) text attempts owes whole made =
+  ends_whole s p w (r ∷ own) (Refused error) text attempts session owes whole some tells made =
+      absurd owes
+  ends_whole s p w own (Ahead None) text attempts session owes whole some tells made =
+      ends_answered s p w own text attempts session owes whole some tells made
+  ends_whole s p w own (Ahead (Some e)) text attempts session owes whole some tells made =
+      ends_ahead s p w own (Some e) e text attempts owes (refl, inl whole) made
+  ends_whole s p w own (Served e) text attempts session owes whole some tells made =
       ends_served s p w own e text attempts owes (inl whole) made
 
 module _ {L C : Type 0} (state : L → LinkState) (start_at : L → LinkStart) where
@@ -503,7 +594,7 @@ module _ {L C : Type 0} (state : L → LinkState) (start_at : L → LinkStart) w
   pub answering_of : (s : Start) (p : Passed) (w : World) (own : List (Returned L))
       (session : Box HttpSession) (owed : Owed) (attempts : List AttemptRecord)
       → RunSoFar {C = C} state start_at s p w own (Answer session owed attempts)
-      → IsAnswering state start_at s p w own session.value.writing.output owed attempts
+      → IsAnswering state start_at s p w own session.value owed attempts
   answering_of s p w [] session owed attempts run = run.holds
   answering_of s p w (r ∷ own) session owed attempts run = run.holds
 
@@ -511,7 +602,7 @@ module _ {L C : Type 0} (state : L → LinkState) (start_at : L → LinkStart) w
   pub answer_on : (s : Start) (p : Passed) (w : World) (own : List (Returned L))
       (session : Box HttpSession) (owed : Owed) (attempts : List AttemptRecord)
       → TellsClient s p w
-      → IsAnswering state start_at s p w own session.value.writing.output owed attempts
+      → IsAnswering state start_at s p w own session.value owed attempts
       → AdvancesOn {C = C} state start_at s w own (Answer session owed attempts)
   answer_on s p w own session owed attempts tells holds = record {
     passed = p;
@@ -528,7 +619,7 @@ module _ {L C : Type 0} (state : L → LinkState) (start_at : L → LinkStart) w
   }
     where
       by : (l : List (Returned L))
-          → IsAnswering state start_at s p w l session.value.writing.output owed attempts
+          → IsAnswering state start_at s p w l session.value owed attempts
           → PhaseHolds {C = C} state start_at s p w l (Answer session owed attempts)
       by [] held = held
       by (r ∷ l) held = held
@@ -574,7 +665,7 @@ module _ {L C : Type 0} (state : L → LinkState) (start_at : L → LinkStart)
     (run : RunSoFar {C = C} state start_at s p w own (Answer session owed attempts))
   where
     -- what the phase holds
-    holds : IsAnswering state start_at s p w own session.value.writing.output owed attempts
+    holds : IsAnswering state start_at s p w own session.value owed attempts
     holds = answering_of state start_at s p w own session owed attempts run
 
     -- the write is one of what waits
@@ -598,18 +689,30 @@ module _ {L C : Type 0} (state : L → LinkState) (start_at : L → LinkStart)
         owes_on state start_at s p text w x own owed holds.text (wrote answer writes) same
         holds.owes
 
+    -- and its session tells the same
+    tells_on : (answer : Put) (writes : WritesPending output w.client x.client answer left)
+        (text : List ℕ) (session' : Box HttpSession) → WrittenOf session.value session'.value
+        → x.client.faults ≡ w.client.faults
+        → TellsOwed state start_at s (past_at p text) x own owed holds.text
+        (owes answer writes text) session'.value
+    unfolding owes
+    tells_on answer writes text session' shows calm =
+        told_on state start_at s p text w x own owed holds.text (wrote answer writes) same
+        holds.owes session.value session'.value shows calm holds.tells
+
     -- the attempts
     made : (text : List ℕ) → HasAttempts state start_at s (past_at p text) own owed attempts
     made text = attempts_on state start_at s p text own owed attempts holds.made
 
     -- the client took some, and more is left or the answer was written whole
     pub answer_took : (n : ℕ) (session' : Box HttpSession) (next : Phase L C)
-        → left ≡ session'.value.writing.output
+        → left ≡ session'.value.writing.output → WrittenOf session.value session'.value
         → WritesPending output w.client x.client (put.Took n) left
         → (0 < length (pending left) → next ≡ Answer session' owed attempts)
-        → (pending left ≡ [] → next ≡ Ended (outcome_owed owed) attempts)
+        → (pending left ≡ []
+        → next ≡ Ended (outcome_written owed (goes_back_with session'.value x.ahead)) attempts)
         → AdvancesOn {C = C} state start_at s x own next
-    answer_took n session' next stands writes more whole =
+    answer_took n session' next stands shows writes more whole =
         by wr.rest refl
       where
         wr : WritesQueue w.client x.client holds.waits.left (put.Took n) left
@@ -630,12 +733,16 @@ module _ {L C : Type 0} (state : L → LinkState) (start_at : L → LinkStart)
             (sym (whole (ap pending wr.leaves ∙ none)))
             (answer_over state start_at s
             (past_at p (p.written ++ take n holds.waits.left)) x own owed holds.text attempts
-            (outcome_owed owed) tells
+            (outcome_written owed (goes_back_with session'.value x.ahead)) tells
             (owes (put.Took n) writes (p.written ++ take n holds.waits.left))
-            (record { rest = []; joined = append-nil _ ∙ all }) (owed_going owed)
+            (record { rest = []; joined = append-nil _ ∙ all })
+            (written_going owed (goes_back_with session'.value x.ahead))
             (ends_whole state start_at s
             (past_at p (p.written ++ take n holds.waits.left)) x own owed holds.text attempts
-            (owes (put.Took n) writes (p.written ++ take n holds.waits.left)) all
+            session'.value (owes (put.Took n) writes (p.written ++ take n holds.waits.left)) all
+            (waits_some _ _ _ holds.waits)
+            (tells_on (put.Took n) writes (p.written ++ take n holds.waits.left) session' shows
+            wr.writes.writes.faults)
             (made (p.written ++ take n holds.waits.left))))
         by (b ∷ bs) some =
             let waits : pending left ≡ b ∷ bs = ap pending wr.leaves ∙ some in
@@ -646,6 +753,8 @@ module _ {L C : Type 0} (state : L → LinkState) (start_at : L → LinkStart)
             (record {
               text = holds.text;
               owes = owes (put.Took n) writes (p.written ++ take n holds.waits.left);
+              tells = tells_on (put.Took n) writes (p.written ++ take n holds.waits.left) session'
+                  shows wr.writes.writes.faults;
               waits = record {
                 left = wr.rest;
                 is_open = sym stands ∙ wr.leaves;
@@ -659,13 +768,16 @@ module _ {L C : Type 0} (state : L → LinkState) (start_at : L → LinkStart)
     -- the client takes nothing now, and what waited waits
     still_on : (answer : Put) (session' : Box HttpSession)
         → WritesPending output w.client x.client answer left
-        → session'.value.writing.output ≡ outgoing.Open holds.waits.left → TellsClient s p x
+        → session'.value.writing.output ≡ outgoing.Open holds.waits.left
+        → WrittenOf session.value session'.value → x.client.faults ≡ w.client.faults
+        → TellsClient s p x
         → AdvancesOn {C = C} state start_at s x own (Answer session' owed attempts)
-    still_on answer session' writes stands tells =
+    still_on answer session' writes stands shows calm tells =
         answer_on state start_at s (past_at p p.written) x own session' owed attempts
         (past_same s p x tells) (record {
           text = holds.text;
           owes = owes answer writes p.written;
+          tells = tells_on answer writes p.written session' shows calm;
           waits = record {
             left = holds.waits.left;
             is_open = stands;
@@ -677,26 +789,29 @@ module _ {L C : Type 0} (state : L → LinkState) (start_at : L → LinkStart)
 
     -- it has to be waited for
     pub answer_waits : (session' : Box HttpSession) → left ≡ session'.value.writing.output
+        → WrittenOf session.value session'.value
         → WritesPending output w.client x.client put.NotReady left
         → AdvancesOn {C = C} state start_at s x own (Answer session' owed attempts)
-    answer_waits session' stands writes =
+    answer_waits session' stands shows writes =
         let wr = written put.NotReady writes in
         let waits = wr.writes.writes in
         still_on put.NotReady session' writes
-        (sym stands ∙ wr.leaves ∙ ap outgoing.Open wr.writes.left)
+        (sym stands ∙ wr.leaves ∙ ap outgoing.Open wr.writes.left) shows waits.faults
         (client_still s p w x (omega (arith, same)) waits.given waits.taken
         (omega (arith, waits.faults))
         (grew_none w.client x.client waits.read_faults waits.write_faults) run.tells)
 
     -- it is silent
     pub answer_silent : (session' : Box HttpSession) → left ≡ session'.value.writing.output
+        → WrittenOf session.value session'.value
         → WritesPending output w.client x.client put.Silent left
         → AdvancesOn {C = C} state start_at s x own (Answer session' owed attempts)
-    answer_silent session' stands writes =
+    answer_silent session' stands shows writes =
         let wr = written put.Silent writes in
         let silent = wr.writes.writes in
         still_on put.Silent session' writes
-        (sym stands ∙ wr.leaves ∙ ap outgoing.Open wr.writes.left)
+        (sym stands ∙ wr.leaves ∙ ap outgoing.Open wr.writes.left) shows
+        (ap (λ (l : LinkState). l.faults) silent.same)
         (client_still s p w x (omega (arith, same)) (ap (λ (l : LinkState). l.given) silent.same)
         (ap (λ (l : LinkState). l.taken) silent.same)
         (omega (arith, ap (λ (l : LinkState). l.faults) silent.same))
@@ -770,7 +885,7 @@ module _ {L C : Type 0} (state : L → LinkState) (start_at : L → LinkStart)
         by (r ∷ l) (Refused error) owes made = absurd owes
         by l (Ahead None) owes made =
             ends_ahead state start_at s (past_at p p.written) x l None
-            (Some (fault_error Downstream fault)) holds.text attempts owes
+            (fault_error Downstream fault) holds.text attempts owes
             (inr (
               fault,
               record { kind = fails.kind; rose = rose; told = last },
@@ -778,7 +893,7 @@ module _ {L C : Type 0} (state : L → LinkState) (start_at : L → LinkStart)
               front,
             )) made
         by l (Ahead (Some e)) owes made =
-            ends_ahead state start_at s (past_at p p.written) x l (Some e) (Some e) holds.text
+            ends_ahead state start_at s (past_at p p.written) x l (Some e) e holds.text
             attempts owes (refl, inr (failed, front)) made
         by l (Served e) owes made =
             ends_served state start_at s (past_at p p.written) x l e holds.text attempts owes

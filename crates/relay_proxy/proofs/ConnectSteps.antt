@@ -205,6 +205,7 @@ module _ {L M K C : Type 0} (state : L → LinkState) (start_at : L → LinkStar
               is_left = k.is_left;
               quiet = k.quiet;
               begins = k.begins;
+              unread = k.unread;
               written = k.written;
               unsent = k.unsent;
               are_tries = k.are_tries;

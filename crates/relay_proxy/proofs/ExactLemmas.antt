@@ -122,7 +122,7 @@ exact_no_request s p w (Refused error) ends none ended =
     left_nothing (endings.IsLeftAlone.is_unrelayable unrelayable is) =
         has_nothing unrelayable.has none
 exact_no_request s p w (Served None reuse) ends none ended =
-    absurd (has_nothing (owed_head ends.0.why ends.0.text ends.0.owed).1.has none)
+    absurd (has_nothing (owed_head ends.ends.why ends.ends.text ends.ends.owed).1.has none)
 exact_no_request s p w (Served (Some e) reuse) ends none ended =
     absurd (elim ends.0 as (λ _. ⊥) [
       | inl missed ↦ has_nothing missed.owed.unconnected.accepted.has none
@@ -206,7 +206,7 @@ exact_refused s p w (Refused told) ends answer error down whole =
       ])
     ]
 exact_refused s p w (Served None reuse) ends answer error down whole =
-    let one = owed_head ends.0.why ends.0.text ends.0.owed in
+    let one = owed_head ends.ends.why ends.ends.text ends.ends.owed in
     absurd (turned_down_or_accepted down one.0 one.1)
 exact_refused s p w (Served (Some e) reuse) ends answer error down whole =
     absurd (elim ends.0 as (λ _. ⊥) [
@@ -441,7 +441,7 @@ whole_unlinked s p w (Refused error) ends head relayable passes asks client conn
       ]
     ])
 whole_unlinked s p w (Served None reuse) ends head relayable passes asks client connector =
-    absurd (passes None ends.0)
+    absurd (passes None ends.ends)
 whole_unlinked s p w (Served (Some e) reuse) ends head relayable passes asks client connector =
     absurd (elim ends.0 as (λ _. ⊥) [
       | inl missed ↦ connector missed.owed.unconnected.rose

@@ -575,7 +575,12 @@ given_ahead response request tasks taken own holds unqueued =
     let held : HoldsOn response (outgoing.Open []) tasks taken =
     subst (λ (o : Outgoing). HoldsOn response o tasks taken) unqueued.output holds in
     let sent : wire request place.NoHead tasks
-    ≡ record { text = taken ++ []; counted = held.counted; place = response.place } =
+    ≡ record {
+      text = taken ++ [];
+      counted = held.counted;
+      closes = response.closes;
+      place = response.place;
+    } =
     ap (λ (r : Request). wire r place.NoHead tasks) (sym own) ∙ held.wire.is in
     record {
       at = ap (λ (k : Sent). has_head k.place) sent

@@ -49,7 +49,7 @@ use Rattle.relay_peer.proofs.FaultLemmas.{Grew, grew_none, more_none, added_last
 use Rattle.relay_proxy.proofs.Tells.{Rose-le, came_more, client_gave, client_still}
 
 -- a request whose body ends with its head is one whose body is done from the first on
-done_at_first : (f : Framing) → is_done (first_state f) ≡ ends_with_head f
+pub done_at_first : (f : Framing) → is_done (first_state f) ≡ ends_with_head f
 done_at_first framing.Empty = refl
 done_at_first (framing.Length n) = refl
 done_at_first framing.Chunked = refl
@@ -353,6 +353,7 @@ module _ {L C : Type 0} (state : L → LinkState) (start_at : L → LinkStart) w
           subst (λ (xs : List ℕ). IsTurnedDown xs (generated status) e) run.holds.whole why,
           run.holds.unsent,
         );
+        tells = tt;
         waits = record {
           left = generated status;
           is_open = waits;

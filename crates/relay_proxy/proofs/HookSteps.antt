@@ -54,6 +54,7 @@ use Rattle.relay_proxy.specs.declared.calls.At.TheVariants as at
 use Rattle.relay_proxy.specs.declared.calls.Calls.{Calls}
 use Rattle.relay_proxy.specs.declared.calls.Opened.{Opened}
 use Rattle.relay_proxy.specs.declared.calls.Opened.TheVariants as led
+use Rattle.relay_proxy.specs.Owed.{TellsAgain}
 use Rattle.relay_proxy.specs.declared.record.AttemptRecord.{AttemptRecord}
 use Rattle.relay_proxy.specs.declared.work.Work.{Work}
 use Rattle.relay_proxy.proofs.CallLemmas.{logged_more, logged_same, none_called, one_called, order_more, walks_more}
@@ -404,6 +405,7 @@ module _ {C M K : Type 0} (allows : Standing → LogEntry → Type 0) (mark_of :
       pub text : List ℕ
       pub is_open : left.writing.output ≡ outgoing.Open text
       pub owed : IsOwedAhead (opened_to s (log_of new)) q None text
+      pub tells : s.tried ≡ [] → TellsAgain owed left
       pub before : is_before old.at ≡ true
 
     answered_by : (p : Place K) → new.at ≡ at.Opening p → leads_to p ≡ led.Answered → (s : Start)
@@ -417,14 +419,16 @@ module _ {C M K : Type 0} (allows : Standing → LogEntry → Type 0) (mark_of :
         let waits : IsOpen left.writing.output =
         end_open done.how client.writing left.writing t.turn.0.e.wrote t.turn.0.queued
         ([], (k.begins k.head false).output) in
+        let answers = hooks_answer allows old new client left (mark_of context)
+        (mark_of context') t.which (station_at old.at) done.how s q w tries waits.0 t.turn.0
+        done.answers done.at
+        (order_on tries t.turn.0.e (end_station done.how) t.turn.0.calls.log t.turn.0.order o)
+        waits.1 k in
         record {
           text = waits.0;
           is_open = waits.1;
-          owed = hooks_answer allows old new client left (mark_of context)
-              (mark_of context') t.which (station_at old.at) done.how s q w tries waits.0 t.turn.0
-              done.answers done.at
-              (order_on tries t.turn.0.e (end_station done.how) t.turn.0.calls.log t.turn.0.order o)
-              waits.1 k;
+          owed = answers.owed;
+          tells = answers.tells;
           before = t.before;
         }
 

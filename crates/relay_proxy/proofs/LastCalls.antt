@@ -44,7 +44,7 @@ use Rattle.relay_closing.specs.declared.place.Stage.TheVariants as stage
 use Rattle.relay_proxy.specs.Calls.{CallsSoFar, BreaksAt, CameIn, CountsCalls, EndsBy, HasAnswered, HasClosed, HasCome, HasFinished, IsBreaking, IsLackingCalls, IsLogged, IsOpening, IsOwing, IsRelayingCalls, IsUnended, IsUnheard, KeepsCalls, KeepsValue, Owing, OwesIn, ShowsSame, StandsAt, StandsBy, closed_with, ended_with, log_of, seen_with, station_at, treated_at}
 use Rattle.relay_proxy.specs.ClosingHooks.{failed_with, stays_alive}
 use Rattle.relay_proxy.specs.Endings.{error_of}
-use Rattle.relay_proxy.specs.Owed.{outcome_failed, outcome_owed}
+use Rattle.relay_proxy.specs.Owed.{outcome_failed, outcome_written}
 use Rattle.relay_proxy.specs.Passed.{begins_end}
 use Rattle.relay_proxy.specs.declared.calls.At.{At}
 use Rattle.relay_proxy.specs.declared.calls.At.TheVariants as at
@@ -402,16 +402,16 @@ module _ {C M K : Type 0} (allows : Standing → LogEntry → Type 0) (mark_of :
   come_logged calls outcome.OutOfMemory o = o
 
   -- what was owed was written, and the session has its client again
-  come_written : (calls : Calls M K C) (client left : HttpSession) (owed : Owed)
+  come_written : (calls : Calls M K C) (client left : HttpSession) (owed : Owed) (again : Bool)
       → ShowsSame left client → IsOwing allows mark_of calls client owed
-      → HasCome allows mark_of (closed_with calls left (error_of (outcome_owed owed)))
-      (outcome_owed owed)
-  come_written calls client left (owing.Refused error) same o = o
-  come_written calls client left (owing.Ahead None) same o =
+      → HasCome allows mark_of (closed_with calls left (error_of (outcome_written owed again)))
+      (outcome_written owed again)
+  come_written calls client left (owing.Refused error) again same o = o
+  come_written calls client left (owing.Ahead None) again same o =
       ends_shown calls.at calls (closed_with calls left None) client left None refl same o.0
-  come_written calls client left (owing.Ahead (Some e)) same o =
+  come_written calls client left (owing.Ahead (Some e)) again same o =
       ends_shown calls.at calls (closed_with calls left (Some e)) client left (Some e) refl same o
-  come_written calls client left (owing.Served e) same o =
+  come_written calls client left (owing.Served e) again same o =
       ends_shown calls.at calls (closed_with calls left (Some e)) client left (Some e) refl same o
 
   -- or a write of it failed
@@ -476,11 +476,11 @@ module _ {L C M K : Type 0} (allows : Standing → LogEntry → Type 0) (mark_of
       subst (λ (c : Calls M K C). CallsSoFar allows mark_of c next) (sym stays)
       (in_owing old next session owed is
       (owing_waiting allows mark_of old client session.value owed same o))
-  owing_on old new client owed next (Owing.written left came is comes same stays) o =
+  owing_on old new client owed next (Owing.written left again came is comes same stays) o =
       subst (λ (c : Calls M K C). CallsSoFar allows mark_of c next) (sym stays)
       (in_outcome (closed_with old left (error_of came)) next came is
       (subst (λ (k : Outcome). HasCome allows mark_of (closed_with old left (error_of k)) k)
-      (sym comes) (come_written allows mark_of old client left owed same o)))
+      (sym comes) (come_written allows mark_of old client left owed again same o)))
   owing_on old new client owed next (Owing.failed left fault came is comes same stays) o =
       subst (λ (c : Calls M K C). CallsSoFar allows mark_of c next) (sym stays)
       (in_outcome (closed_with old left (error_of came)) next came is
@@ -496,7 +496,7 @@ pub owing_log : {L C M K : Type 0} (old new : Calls M K C) (client : HttpSession
     (next : Phase L C) → Owing client owed old new next → log_of new ≡ log_of old
 owing_log old new client owed next (Owing.waits session is same stays) =
     ap (λ (c : Calls _ _ _). log_of c) stays
-owing_log old new client owed next (Owing.written left came is comes same stays) =
+owing_log old new client owed next (Owing.written left again came is comes same stays) =
     ap (λ (c : Calls _ _ _). log_of c) stays
 owing_log old new client owed next (Owing.failed left fault came is comes same stays) =
     ap (λ (c : Calls _ _ _). log_of c) stays
@@ -519,9 +519,10 @@ pub owing_as : {L C M K : Type 0} (client left : HttpSession) (owed : Owed)
 owing_as client left owed old new next same (Owing.waits session is shows stays) =
     let s = shows_same client left same in
     Owing.waits session is (shows.0 ∙ s.0, shows.1 ∙ s.1) stays
-owing_as client left owed old new next same (Owing.written after came is comes shows stays) =
+owing_as client left owed old new next same
+    (Owing.written after again came is comes shows stays) =
     let s = shows_same client left same in
-    Owing.written after came is comes (shows.0 ∙ s.0, shows.1 ∙ s.1) stays
+    Owing.written after again came is comes (shows.0 ∙ s.0, shows.1 ∙ s.1) stays
 owing_as client left owed old new next same (Owing.failed after fault came is comes shows stays) =
     let s = shows_same client left same in
     Owing.failed after fault came is comes (shows.0 ∙ s.0, shows.1 ∙ s.1) stays

@@ -84,6 +84,11 @@ begins_later s old new leg front begins = record {
       (front_called old new front);
 }
 
+-- a list that got one more has some
+some_made : (xs : List AttemptRecord) (x : AttemptRecord) → xs ++ x ∷ [] ≡ [] → ⊥
+some_made [] x none = cc
+some_made (y ∷ ys) x none = cc
+
 module _ {L : Type 0} (state : L → LinkState) (start_at : L → LinkStart) where
   -- they were tried again still, once the log has grown
   pub legs_later : (s : Start) (old new : List LogEntry) (legs : List (Leg L)) → IsFrontOf old new
@@ -270,6 +275,7 @@ module _ {L C : Type 0} (state : L → LinkState) (start_at : L → LinkStart) (
       is_left = r.is_left;
       quiet = r.quiet;
       begins = r.begins;
+      unread = λ none. absurd (some_made (tries_in r.lease) hands.attempt none);
       written = refl;
       unsent = record { got = refl; sent = refl };
       are_tries = tries_again;

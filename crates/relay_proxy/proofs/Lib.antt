@@ -3,6 +3,7 @@ pub mod TryLemmas
 pub mod OpenHead
 pub mod SentLemmas
 pub mod CutLemmas
+pub mod ReuseLemmas
 pub mod AnswerSteps
 pub mod FailSteps
 pub mod HeadSteps

@@ -53,7 +53,8 @@ use Rattle.relay_peer.proofs.FaultLemmas.{grew_same}
 use Rattle.relay_proxy.specs.Calls.{log_of, seen_with}
 use Rattle.relay_closing.specs.Queued.{QueuesOnce}
 use Rattle.relay_proxy.specs.Ahead.{IsAnswerOf, IsOwedAhead, IsStoppedFor}
-use Rattle.relay_proxy.specs.Endings.{IsInOrder, AttemptsFailed, AttemptsUnlinked, EndsAhead, EndsUnlinked, MadeAhead, MadeNone}
+use Rattle.relay_proxy.specs.Owed.{IsAnsweredCalmly, TellsAgain}
+use Rattle.relay_proxy.specs.Endings.{IsReusableAhead, IsInOrder, AttemptsFailed, AttemptsUnlinked, EndsAhead, EndsUnlinked, MadeAhead, MadeNone}
 use Rattle.relay_proxy.specs.Passed.{World, Start, asked, closed_to, opened_to, origin_of, IsUnsent, TellsClient}
 use Rattle.relay_proxy.specs.Phases.{IsConnecting, RunSoFar}
 use Rattle.relay_proxy.specs.Relayable.{IsAccepted, IsRelayable}
@@ -67,7 +68,7 @@ use Rattle.relay_proxy.specs.declared.outcome.Outcome.TheVariants as outcome
 use Rattle.relay_proxy.specs.declared.owed.Owed.TheVariants as owed
 use Rattle.relay_proxy.specs.declared.record.AttemptRecord.{AttemptRecord}
 use Rattle.relay_proxy.proofs.AnswerSteps.{answer_on}
-use Rattle.relay_proxy.proofs.HeadSteps.{StandsBehind, begins_behind}
+use Rattle.relay_proxy.proofs.HeadSteps.{StandsBehind, begins_behind, done_at_first}
 use Rattle.relay_proxy.proofs.Tells.{client_still}
 use Rattle.relay_proxy.proofs.NamedLemmas.{refusals_still}
 use Rattle.relay_proxy.proofs.TryLemmas.{no_tries}
@@ -86,7 +87,7 @@ called_tells s these those p w tells = record {
 }
 
 -- nor does the head that was accepted
-pub called_accepted : (s : Start) (these those : List LogEntry) (p : Passed) (head : RequestHead)
+abbrev pub called_accepted : (s : Start) (these those : List LogEntry) (p : Passed) (head : RequestHead)
     → IsAccepted (opened_to s these) p head → IsAccepted (opened_to s those) p head
 called_accepted s these those p head accepted = record {
   framing = accepted.framing;
@@ -241,6 +242,7 @@ stays_with allows c d client left mark behind which from to t s p w tries attemp
       ∙ t.queued.wrote_none;
   begins = λ sent reused. begins_on (origin_of s k.head sent reused) p.came w.client w.ahead
       (seen_with c client) (seen_with d left) t.calls.reads t.queued.same (k.begins sent reused);
+  unread = λ none. reads_done (seen_with c client) (seen_with d left) t.calls.reads ∙ k.unread none;
   written = k.written;
   unsent = k.unsent;
   are_tries = are;
@@ -318,44 +320,74 @@ once_open old new wrote (inr answer) = answer.stays_open
 
 -- ---- a request that hooks answered
 
+-- the text of tasks that answer that request waits, and the response stands behind them
+record Waits (request : Request) (tasks : List HttpTask) (waiting : List ℕ) (new : Writing)
+    : Type 0 where
+  own : new.request ≡ request
+  text : waiting ≡ (wire request stands.NoHead tasks).text
+  place : new.place ≡ (wire request stands.NoHead tasks).place
+  closes : new.closes ≡ (wire request stands.NoHead tasks).closes
+
+waits_for : (request : Request) (new : Writing) (tasks : List HttpTask) (waiting : List ℕ)
+    → new.request ≡ request → Holds new tasks [] → new.output ≡ outgoing.Open waiting
+    → Waits request tasks waiting new
+waits_for request new tasks waiting own holds is_open =
+    let held : HoldsOn new (outgoing.Open waiting) tasks [] =
+    subst (λ (o : Outgoing). HoldsOn new o tasks []) is_open holds in
+    let sent : wire request stands.NoHead tasks
+    ≡ record {
+      text = waiting;
+      counted = held.counted;
+      closes = new.closes;
+      place = new.place;
+    } =
+    ap (λ (r : Request). wire r stands.NoHead tasks) (sym own) ∙ held.wire.is in
+    record {
+      own = own;
+      text = sym (ap (λ (k : Sent). k.text) sent);
+      place = sym (ap (λ (k : Sent). k.place) sent);
+      closes = sym (ap (λ (k : Sent). k.closes) sent);
+    }
+
 -- the tasks that a hook queued are an answer of that request, and their text waits
-record IsAnswerWaiting (request : Request) (wrote : List HttpTask) (waiting : List ℕ) : Type 0 where
+record IsAnswerWaiting (request : Request) (wrote : List HttpTask) (waiting : List ℕ)
+    (new : Writing) : Type 0 where
   tasks : List HttpTask
   is_answer : IsAnswerOf request wrote tasks
-  text : waiting ≡ (wire request stands.NoHead tasks).text
+  waits : Waits request tasks waiting new
 
 -- what a hook queued that answered the request is an answer of it
 answer_queued : (old new : Writing) (wrote : List HttpTask) (waiting : List ℕ)
     → Holds old [] [] → QueuesAnswer old new wrote → new.output ≡ outgoing.Open waiting
-    → IsAnswerWaiting old.request wrote waiting
+    → IsAnswerWaiting old.request wrote waiting new
 answer_queued old new wrote waiting holds queues is_open =
     record {
       tasks = wrote;
       is_answer = IsAnswerOf.as_queued (inl queues.whole);
-      text = waits_of new wrote waiting (queues.queued [] [] holds) is_open
-          ∙ ap (λ (r : Request). (wire r stands.NoHead wrote).text) queues.answers_to;
+      waits = waits_for old.request new wrote waiting queues.answers_to
+          (queues.queued [] [] holds) is_open;
     }
 
 -- and so is what a hook queued that declined it, with the 502 behind it where there was no head
 declined_queued : (has : Bool) (left new : Writing) (wrote : List HttpTask) (waiting : List ℕ)
     → has_head left.place ≡ has → Holds left wrote [] → Completes has left new
-    → new.output ≡ outgoing.Open waiting → IsAnswerWaiting left.request wrote waiting
+    → new.output ≡ outgoing.Open waiting → IsAnswerWaiting left.request wrote waiting new
 declined_queued true left new wrote waiting has holds same is_open =
     record {
       tasks = wrote;
       is_answer = IsAnswerOf.as_queued
           (inr (ap (λ (p : Place). has_head p) (leads_to left wrote holds) ∙ has));
-      text = waits_of left wrote waiting holds
-          (sym (ap (λ (w : Writing). w.output) same) ∙ is_open);
+      waits = waits_for left.request new wrote waiting (ap (λ (w : Writing). w.request) same)
+          (subst (λ (w : Writing). Holds w wrote []) (sym same) holds) is_open;
     }
 declined_queued false left new wrote waiting has holds queued is_open =
     record {
       tasks = wrote ++ lone_answer 502;
       is_answer = IsAnswerOf.with_502
           (ap (λ (p : Place). has_head p) (leads_to left wrote holds) ∙ has);
-      text = waits_of new (wrote ++ lone_answer 502) waiting (queued.goes_on wrote [] holds) is_open
-          ∙ ap (λ (r : Request). (wire r stands.NoHead (wrote ++ lone_answer 502)).text)
-          (ap (λ (w : Writing). w.request) queued.grows.grown);
+      waits = waits_for left.request new (wrote ++ lone_answer 502) waiting
+          (ap (λ (w : Writing). w.request) queued.grows.grown) (queued.goes_on wrote [] holds)
+          is_open;
     }
 
 -- hooks that ended so answered the request
@@ -370,17 +402,23 @@ AnswersAs (end.Failed error) = ⊥
 -- what they queued is an answer of it
 hooks_queued : (how : End) (old new : Writing) (wrote : List HttpTask) (waiting : List ℕ)
     → AnswersAs how → Holds old [] [] → QueuesAtEnd how old new wrote
-    → new.output ≡ outgoing.Open waiting → IsAnswerWaiting old.request wrote waiting
+    → new.output ≡ outgoing.Open waiting → IsAnswerWaiting old.request wrote waiting new
 hooks_queued end.Attempts old new wrote waiting ends holds queues is_open = absurd ends
 hooks_queued end.Answered old new wrote waiting ends holds queues is_open =
     answer_queued old new wrote waiting holds queues is_open
 hooks_queued end.Purge old new wrote waiting ends holds queues is_open = absurd ends
 hooks_queued end.Declined old new wrote waiting ends holds queues is_open =
-    subst (λ (r : Request). IsAnswerWaiting r wrote waiting) queues.answers_to
+    subst (λ (r : Request). IsAnswerWaiting r wrote waiting new) queues.answers_to
     (declined_queued (has_head queues.left.place) queues.left new wrote waiting refl
     (queues.queued [] [] holds) queues.completed is_open)
 hooks_queued (end.Unwritten why) old new wrote waiting ends holds queues is_open = absurd ends
 hooks_queued (end.Failed error) old new wrote waiting ends holds queues is_open = absurd ends
+
+-- the client is owed what waits, and the session tells whether it may ask for more behind that
+pub record HooksAnswer (s : Start) (p : Passed) (left : HttpSession) (waiting : List ℕ)
+    : Type 0 where
+  pub owed : IsOwedAhead s p None waiting
+  pub tells : s.tried ≡ [] → TellsAgain owed left
 
 -- the hooks before the attempts answered the request, and what waits is what it is owed
 pub hooks_answer : {M K X : Type 0} (allows : Standing → LogEntry → Type 0) (c d : Calls M K X)
@@ -392,7 +430,7 @@ pub hooks_answer : {M K X : Type 0} (allows : Standing → LogEntry → Type 0) 
     → Accepts station.accepted (log_of d) (end_station how)
     → left.writing.output ≡ outgoing.Open waiting
     → IsConnecting (opened_to s (log_of c)) p w client tries
-    → IsOwedAhead (opened_to s (log_of d)) p None waiting
+    → HooksAnswer (opened_to s (log_of d)) p left waiting
 hooks_answer allows c d client left mark behind which from how s p w tries waiting t ends at order
     is_open k =
     let begins = k.begins k.head false in
@@ -400,14 +438,24 @@ hooks_answer allows c d client left mark behind which from how s p w tries waiti
     t.queued is_open in
     let request : client.writing.request ≡ request_of k.head =
     begins.answers ∙ ap (λ (h : RequestHead). request_of h) begins.own in
-    IsOwedAhead.by_answer k.head answer.tasks waiting
-    (called_accepted s (log_of c) (log_of d) p k.head k.accepted)
-    (subst (λ (at : Station). Accepts station.accepted (log_of d) at) at order)
-    (subst (λ (l : List HttpTask). IsAnswerOf (request_of k.head) l answer.tasks)
-    (sym (wrote_on allows c d client left mark behind which from (end_station how)
-    (QueuesAtEnd how) t k.quiet))
-    (subst (λ (r : Request). IsAnswerOf r t.e.wrote answer.tasks) request answer.is_answer))
-    (answer.text ∙ ap (λ (r : Request). (wire r stands.NoHead answer.tasks).text) request)
+    let waits : Waits (request_of k.head) answer.tasks waiting left.writing =
+    subst (λ (r : Request). Waits r answer.tasks waiting left.writing) request answer.waits in
+    record {
+      owed = IsOwedAhead.by_answer k.head answer.tasks waiting
+          (called_accepted s (log_of c) (log_of d) p k.head k.accepted)
+          (subst (λ (at : Station). Accepts station.accepted (log_of d) at) at order)
+          (subst (λ (l : List HttpTask). IsAnswerOf (request_of k.head) l answer.tasks)
+          (sym (wrote_on allows c d client left mark behind which from (end_station how)
+          (QueuesAtEnd how) t k.quiet))
+          (subst (λ (r : Request). IsAnswerOf r t.e.wrote answer.tasks) request answer.is_answer))
+          waits.text;
+      tells = λ none. record {
+        request = waits.own;
+        done = reads_done (seen_with c client) (seen_with d left) t.calls.reads ∙ k.unread none;
+        place = waits.place;
+        closes = waits.closes;
+      };
+    }
 
 -- a hook stopped the request with that error, the application answered it, and what waits is what
 -- it queued
@@ -439,27 +487,42 @@ error_answered s log closed p w client left tries e stops told queues k =
           ∙ ap (λ (r : Request). (wire r stands.NoHead wrote).text) request);
     }
 
+-- where nothing is owed the client does not go back
+nothing_again : (s : Start) (p : Passed) (why : Option Error) (text : List ℕ)
+    (owes : IsOwedAhead s p why text) (ahead : List ℕ) → text ≡ [] → IsReusableAhead owes ahead → ⊥
+nothing_again s p why text (IsOwedAhead.by_answer head tasks t accepted order is_answer is) ahead
+    none may =
+    may.some (sym is ∙ none)
+nothing_again s p why text (IsOwedAhead.by_error head e t accepted stopped told is) ahead none may =
+    may
+nothing_again s p why text (IsOwedAhead.by_purge head e t accepted order same is) ahead none may =
+    may
+
 -- how one ends that is owed nothing
 owed_nothing : (s : Start) (p : Passed) (w : World) (why : Option Error)
     (tries : List AttemptRecord) → IsOwedAhead s p why [] → IsUntreated s.called
-    → p.written ≡ [] → IsUnsent p → MadeAhead s why tries
+    → p.written ≡ [] → IsUnsent p → MadeAhead s why tries → w.client.faults ≡ s.faults
     → EndsUnlinked s p w (outcome.Served why false)
     × AttemptsUnlinked s p w tries (outcome.Served why false)
-owed_nothing s p w None tries owes untreated written unsent made = (
-  (
-    record {
+owed_nothing s p w None tries owes untreated written unsent made calm = (
+  record {
+    ends = record {
       why = None;
       text = [];
       owed = owes;
       given = inl (refl, written);
       unsent = unsent;
       untreated = untreated;
-    },
-    refl,
-  ),
+    };
+    calm = calm;
+    goes_back = (
+      λ never. absurd (true≢false (sym never)),
+      λ may. absurd (nothing_again s p None [] owes w.ahead refl may),
+    );
+  },
   made,
 )
-owed_nothing s p w (Some e) tries owes untreated written unsent made =
+owed_nothing s p w (Some e) tries owes untreated written unsent made calm =
     let ends : EndsAhead s p w (Some e) = record {
       why = Some e;
       text = [];
@@ -494,12 +557,13 @@ module _ {L C : Type 0} (state : L → LinkState) (start_at : L → LinkStart) w
       (w : World) (context : C)
       (client left : Box HttpSession) (tries : List AttemptRecord) (why : Option Error)
       (text : List ℕ) → left.value.writing.output ≡ outgoing.Open text → 0 < length text
-      → IsOwedAhead (closed_to s those xs) p why text → IsUntreated those
+      → (owes : IsOwedAhead (closed_to s those xs) p why text) → IsUntreated those
       → MadeAhead (closed_to s those xs) why tries
+      → IsAnsweredCalmly {p = p} w why owes left.value
       → RunSoFar {C = C} state start_at (opened_to s these) p w [] (Connect context client tries)
       → Advances {C = C} state start_at (closed_to s those xs) w (Answer left (owed.Ahead why) tries)
   hooks_owe these those xs s p w context client left tries why text waits some owes untreated made
-      run =
+      tells run =
       answer_on state start_at (closed_to s those xs) p w [] left (owed.Ahead why) tries
       (closed_tells s those xs p w (called_tells s these those p w run.tells)) (record {
         text = text;
@@ -508,6 +572,7 @@ module _ {L C : Type 0} (state : L → LinkState) (start_at : L → LinkStart) w
           record { got = run.holds.unsent.got; sent = run.holds.unsent.sent },
           untreated,
         );
+        tells = tells;
         waits = record {
           left = text;
           is_open = waits;
@@ -535,7 +600,7 @@ module _ {L C : Type 0} (state : L → LinkState) (start_at : L → LinkStart) w
       going = λ limit. cc;
       calm = tt;
       holds = owed_nothing (closed_to s those xs) p w why tries owes untreated run.holds.written
-          (record { got = run.holds.unsent.got; sent = run.holds.unsent.sent }) made;
+          (record { got = run.holds.unsent.got; sent = run.holds.unsent.sent }) made run.calm;
     };
   }
 
@@ -546,23 +611,24 @@ module _ {L C : Type 0} (state : L → LinkState) (start_at : L → LinkStart) w
       → left.value.writing.output ≡ outgoing.Open text
       → (0 < length (pending left.value.writing.output) → next ≡ Answer left (owed.Ahead why) tries)
       → (pending left.value.writing.output ≡ [] → next ≡ Ended (outcome.Served why false) tries)
-      → IsOwedAhead (closed_to s those xs) p why text → IsUntreated those
+      → (owes : IsOwedAhead (closed_to s those xs) p why text) → IsUntreated those
       → MadeAhead (closed_to s those xs) why tries
+      → IsAnsweredCalmly {p = p} w why owes left.value
       → RunSoFar {C = C} state start_at (opened_to s these) p w [] (Connect context client tries)
       → Advances {C = C} state start_at (closed_to s those xs) w next
   hooks_leave these those xs s p w context client left tries why [] next is more none owes
-      untreated made run =
+      untreated made tells run =
       subst (λ (k : Phase L C). Advances {C = C} state start_at (closed_to s those xs) w k)
       (sym (none (ap pending is)))
       (hooks_end these those xs s p w context client tries why owes untreated made run)
   hooks_leave these those xs s p w context client left tries why (b ∷ bs) next is more none owes
-      untreated made run =
+      untreated made tells run =
       let long : 0 < length (pending left.value.writing.output) =
       omega (arith, ap (λ (o : Outgoing). length (pending o)) is) in
       subst (λ (k : Phase L C). Advances {C = C} state start_at (closed_to s those xs) w k)
       (sym (more long))
       (hooks_owe these those xs s p w context client left tries why (b ∷ bs) is (omega arith) owes
-      untreated made run)
+      untreated made tells run)
 
   -- one that was out of memory
   pub hooks_lost : (these those : List LogEntry) (s : Start) (p : Passed) (w : World) (context : C)
@@ -619,6 +685,8 @@ module _ {L C : Type 0} (state : L → LinkState) (start_at : L → LinkStart) w
                 (begins_behind (opened_to s (log_of c)) p x head framing len client sent reused tells
                 run.holds.written asks
                 (ahead ∙ ap (λ (xs : List ℕ). drop len xs) run.holds.whole) behind);
+            unread = λ none. reads_done (seen_with c client) (seen_with d left.value) called.reads
+                ∙ behind.done ∙ done_at_first framing;
             written = run.holds.written;
             unsent = run.holds.unsent;
             are_tries = no_tries (opened_to s (log_of d)) tries run.holds.untried.0

@@ -17,7 +17,7 @@ use Rattle.relay_tasks.specs.declared.took.Pause.TheVariants.{NotReady, Silent}
 use Rattle.relay_links.specs.Link.{LinkState, LinkStart}
 use Rattle.relay_h1.specs.Options.{closes}
 use Rattle.relay_h1.specs.Verdict.{IsOpen}
-use Rattle.relay_session.specs.Asked.{is_http_11, is_version_11, lets_ask, request_of}
+use Rattle.relay_session.specs.Asked.{is_http_11, lets_ask, request_of}
 use Rattle.relay_session.specs.Reading.{head_of, is_body_done}
 use Rattle.relay_session.specs.declared.session.HttpSession.{HttpSession}
 use Rattle.relay_session.specs.declared.task_text.Request.{Request}
@@ -63,22 +63,9 @@ use Rattle.relay_proxy.specs.declared.machine.Phase.TheVariants as stage
 use Rattle.relay_proxy.specs.declared.outcome.Outcome.{Outcome}
 use Rattle.relay_proxy.specs.declared.outcome.Outcome.TheVariants.{Served, TurnLimit}
 use Rattle.relay_valid.proofs.UnshortLemmas.{never_short}
+use Rattle.relay_proxy.proofs.ReuseLemmas.{version_11}
 
 -- ---- whether the client may ask for more
-
--- a test that passes only for HTTP/1.1
-version_11 : (version : Version) → is_http_11 version ≡ true → version ≡ HTTP_11
-version_11 version passes = ap as_version (is_11 version.0 passes)
-  where
-    as_version : Http → Version
-    as_version http = record { 0 = http }
-
-    is_11 : (http : Http) → is_version_11 http ≡ true → http ≡ Http11
-    is_11 Http09 passes = cc
-    is_11 Http10 passes = cc
-    is_11 Http11 passes = refl
-    is_11 H2 passes = cc
-    is_11 H3 passes = cc
 
 -- what the five tests of a client that may ask for more say
 record FivePass (closing none_ahead done is_11 asks_close : Bool) : Type 0 where

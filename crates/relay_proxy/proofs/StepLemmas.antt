@@ -124,7 +124,7 @@ module _ {L : Type 0} (state : L → LinkState) (start_at : L → LinkStart) whe
       → IsLeased s p (state link) (start_at link) lease
       → Hands link lease keep (Served (Some e) false) r attempts
       → IsFailing state start_at s p w link keep session e
-      → IsAnswering state start_at s p w (r ∷ []) session.writing.output (owed.Served e) attempts
+      → IsAnswering state start_at s p w (r ∷ []) session (owed.Served e) attempts
   owes_back s p w link lease keep e r attempts session leased hands failing =
       let back : IsFailing state start_at s p w r.link r.keep session e =
       subst (λ (b : Bool). IsFailing state start_at s p w r.link b session e) (sym hands.kept)
@@ -133,6 +133,7 @@ module _ {L : Type 0} (state : L → LinkState) (start_at : L → LinkStart) whe
       record {
         text = back.text;
         owes = back.misses;
+        tells = tt;
         waits = back.waits;
         made = given_back s p link lease keep e r attempts leased hands;
       }

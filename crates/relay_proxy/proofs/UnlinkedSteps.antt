@@ -112,6 +112,7 @@ module _ {L C : Type 0} (state : L → LinkState) (start_at : L → LinkStart) w
       (closed_tells s log xs p w (called_tells s log log p w run.tells)) (record {
         text = text;
         owes = owes;
+        tells = tt;
         waits = record {
           left = text;
           is_open = waits;

@@ -54,7 +54,7 @@ use Rattle.relay_proxy.specs.declared.calls.Opened.TheVariants as led
 use Rattle.relay_proxy.specs.declared.outcome.Outcome.{Outcome}
 use Rattle.relay_proxy.specs.declared.outcome.Outcome.TheVariants.{NoRequest, Refused, Served, TurnLimit, OutOfMemory}
 use Rattle.relay_proxy.specs.Endings.{error_of}
-use Rattle.relay_proxy.specs.Owed.{outcome_failed, outcome_owed}
+use Rattle.relay_proxy.specs.Owed.{outcome_failed, outcome_written}
 use Rattle.relay_proxy.specs.declared.owed.Owed.{Owed}
 use Rattle.relay_proxy.specs.declared.owed.Owed.TheVariants as owing
 use Rattle.relay_proxy.specs.declared.work.Work.{Work}
@@ -678,7 +678,8 @@ pub data Owing {L C M K : Type 0} (client : HttpSession) (owed : Owed) (old new 
     (next : Phase L C) : Type 0 where
   waits : (session : Box HttpSession) → OwesIn next session owed → ShowsSame session.value client
       → new ≡ old → Owing client owed old new next
-  written : (left : HttpSession) (came : Outcome) → CameIn next came → came ≡ outcome_owed owed
+  written : (left : HttpSession) (again : Bool) (came : Outcome) → CameIn next came
+      → came ≡ outcome_written owed again
       → ShowsSame left client → new ≡ closed_with old left (error_of came)
       → Owing client owed old new next
   failed : (left : HttpSession) (fault : Fault) (came : Outcome) → CameIn next came

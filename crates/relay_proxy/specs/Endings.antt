@@ -20,7 +20,12 @@ use Rattle.relay_h1.specs.Verdict.{IsOpen, HasRequest, IsRefusedRequest, refused
 use Rattle.relay_h1.specs.Wire.{generated}
 use Rattle.relay_h1.specs.declared.framing.Framing.{Framing}
 use Rattle.relay_authority.specs.Entry.{Entered}
+use Rattle.relay_session.specs.Asked.{request_of}
+use Rattle.relay_session.specs.Front.{ends_with_head}
 use Rattle.relay_session.specs.Reading.{IsWhole}
+use Rattle.relay_session.specs.Response.{is_over}
+use Rattle.relay_session.specs.TaskWire.{Sent, wire}
+use Rattle.relay_session.specs.declared.task_text.Place.TheVariants as stands
 use Rattle.relay_phases.specs.Order.{may_try_again}
 use Rattle.relay_core.specs.Past.{Origin}
 use Rattle.relay_peer.specs.Body.{IsFrontOf, body_of}
@@ -229,6 +234,36 @@ pub record EndsAhead (s : Start) (p : Passed) (w : World) (told : Option Error) 
   -- no attempt failed, whose error was treated
   pub untreated : IsUntreated s.called
 
+-- a client's connection may serve another request behind what was sent to answer one with that head:
+-- it speaks HTTP/1.1; neither its head nor that of the answer asks to close, nor does the body of
+-- the answer last until the connection ends; there is an answer, and it is over; and the request,
+-- of whose body nothing was read, has none, with no byte behind it (RFC 9112, sections 9.3 and 9.6)
+pub record IsReusableBehind (head : RequestHead) (framing : Framing) (sent : Sent) (ahead : List ℕ)
+    : Type 0 where
+  pub version : head.version ≡ HTTP_11
+  pub asks : closes head.fields ≡ false
+  pub answers : sent.closes ≡ false
+  pub some : sent.text ≢ []
+  pub over : is_over sent.place ≡ true
+  pub ended : ends_with_head framing ≡ true
+  pub nothing_ahead : ahead ≡ []
+
+-- so it may behind what hooks answered; behind an error none may
+abbrev pub IsReusableAhead : {s : Start} {p : Passed} {why : Option Error} {text : List ℕ}
+    → IsOwedAhead s p why text → List ℕ → Type 0
+IsReusableAhead (IsOwedAhead.by_answer head tasks text accepted order is_answer is) ahead =
+    IsReusableBehind head accepted.framing (wire (request_of head) stands.NoHead tasks) ahead
+IsReusableAhead (IsOwedAhead.by_error head e text accepted stopped told is) ahead = ⊥
+IsReusableAhead (IsOwedAhead.by_purge head e text accepted order same is) ahead = ⊥
+
+-- hooks answered the request, and its client was given all of that
+pub record EndsAnswered (s : Start) (p : Passed) (w : World) (reuse : Bool) : Type 0 where
+  pub ends : EndsAhead s p w None
+  -- no call of the client's link failed
+  pub calm : w.client.faults ≡ s.faults
+  -- the client goes back exactly where it may ask for more
+  pub goes_back : IsTrue reuse ↔ IsReusableAhead ends.owed w.ahead
+
 -- how it ends where the client ended with these bytes of its head
 abbrev pub ended_outcome : List ℕ → Outcome
 ended_outcome [] = NoRequest
@@ -239,7 +274,7 @@ abbrev pub EndsUnlinked : Start → Passed → World → Outcome → Type 0
 EndsUnlinked s p w NoRequest = IsNoRequest s p w
 EndsUnlinked s p w (Refused error) =
     IsAnsweredHere s p error ⊎ (IsNotRelayed s p w error ⊎ IsClientFault s p w error)
-EndsUnlinked s p w (Served None reuse) = EndsAhead s p w None × (reuse ≡ false)
+EndsUnlinked s p w (Served None reuse) = EndsAnswered s p w reuse
 EndsUnlinked s p w (Served (Some e) reuse) =
     (FailsToConnect s p w e ⊎ EndsAhead s p w (Some e)) × (reuse ≡ false)
 EndsUnlinked s p w TurnLimit = IsUnsent p

@@ -8,7 +8,8 @@ use Rattle.relay_links.specs.declared.Returned.{Returned}
 use Rattle.relay_opening.specs.Told.{head_behind}
 use Rattle.relay_phases.specs.Turns.{wrote_in}
 use Rattle.relay_session.specs.Asked.{request_of}
-use Rattle.relay_session.specs.Reading.{head_of}
+use Rattle.relay_session.specs.Front.{ends_with_head}
+use Rattle.relay_session.specs.Reading.{head_of, is_body_done}
 use Rattle.relay_session.specs.Response.{Holds}
 use Rattle.relay_session.specs.Session.{may_begin_again}
 use Rattle.relay_session.specs.declared.session.HttpSession.{HttpSession}
@@ -50,6 +51,8 @@ pub record IsConnecting (s : Start) (p : Passed) (w : World) (session : HttpSess
   pub quiet : wrote_in s.called ≡ []
   pub begins : (sent : RequestHead) (reused : Bool)
       → BeginsBehind (origin_of s head sent reused) p.came w.client w.ahead session
+  -- of whose body nothing was read before an attempt had a link
+  pub unread : s.tried ≡ [] → is_body_done session.reading ≡ ends_with_head accepted.framing
   pub written : p.written ≡ []
   pub unsent : IsUnsent p
   pub are_tries : AreTries s tries
@@ -166,7 +169,7 @@ module _ {L C : Type 0} (state : L → LinkState) (start_at : L → LinkStart) w
       IsLeased s p (state link) (start_at link) lease
       × EndsLinked s p w (state link) (start_at link) keep (error_of outcome) outcome
   IsAt s p w (Answer session owed attempts) =
-      IsAnswering state start_at s p w [] session.value.writing.output owed attempts
+      IsAnswering state start_at s p w [] session.value owed attempts
   IsAt s p w (Ended outcome attempts) =
       EndsUnlinked s p w outcome × AttemptsUnlinked s p w attempts outcome
 
@@ -184,7 +187,7 @@ module _ {L C : Type 0} (state : L → LinkState) (start_at : L → LinkStart) w
   PhaseHolds s p w (r ∷ own) (Fail link lease keep session error) = ⊥
   PhaseHolds s p w (r ∷ own) (Close link lease keep outcome) = ⊥
   PhaseHolds s p w (r ∷ own) (Answer session owed attempts) =
-      IsAnswering state start_at s p w (r ∷ own) session.value.writing.output owed attempts
+      IsAnswering state start_at s p w (r ∷ own) session.value owed attempts
   PhaseHolds s p w (r ∷ own) (Ended outcome attempts) =
       EndsWith state start_at s p w (r ∷ own) attempts outcome
 

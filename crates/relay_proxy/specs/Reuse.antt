@@ -1,7 +1,9 @@
--- Whether the client may ask for more, by what is known of a finished exchange (RFC 9112, section
--- 9.3).
+-- Whether the client may ask for more, by what is known of a finished exchange, or of the session
+-- of a request that hooks answered (RFC 9112, section 9.3).
 use Rattle.std.specs.Prelude.{ℕ, Bool, not, ◌&&◌, ◌==◌, List, length}
+use Rattle.relay_session.specs.Response.{is_over}
 use Rattle.relay_session.specs.Session.{lets_ask_again}
+use Rattle.relay_session.specs.declared.session.HttpSession.{HttpSession}
 use Rattle.relay_attempt.specs.declared.h1_exchange.H1Exchange.{H1Exchange}
 
 -- the client may ask for more: its request lets it, the response does not ask to close, and no byte
@@ -9,3 +11,13 @@ use Rattle.relay_attempt.specs.declared.h1_exchange.H1Exchange.{H1Exchange}
 abbrev pub client_reusable : {L : Type 0} → H1Exchange L → List ℕ → Bool
 client_reusable x ahead =
     (not x.exchange.up.closes && (length ahead == 0)) && lets_ask_again x.exchange.down.session
+
+-- the client may ask for more behind a response that was written out: its request lets it, and the
+-- response is over and does not close the connection
+abbrev pub may_ask_again : HttpSession → Bool
+may_ask_again session =
+    lets_ask_again session && (is_over session.writing.place && not session.writing.closes)
+
+-- the same where nothing is ahead
+abbrev pub goes_back_with : HttpSession → List ℕ → Bool
+goes_back_with session ahead = (length ahead == 0) && may_ask_again session

@@ -1,15 +1,16 @@
 //! The generated answer of a request, and what was queued before it: written to the client (RFC
 //! 9110, section 15).
-ghost use Rattle.std.specs.Prelude.{◌≡◌, ◌⊎◌, ◌<◌, ℕ, List, [], length, false, true};
+ghost use Rattle.std.specs.Prelude.{◌≡◌, ◌⊎◌, ◌<◌, ◌&&◌, ℕ, List, [], length, false, true};
 ghost use Rattle.relay_attempt.specs.Passed.{Passed};
 ghost use Rattle.relay_session.specs.Response.{pending, MayWrite, WritesPending};
 ghost use Rattle.relay_proxy.specs.Bound.{CountsAnswer, CountsCall};
 ghost use Rattle.relay_proxy.specs.Calls.{Owing, closed_with, log_of};
 ghost use Rattle.relay_proxy.specs.Endings.{error_of};
-ghost use Rattle.relay_proxy.specs.Owed.{is_served, outcome_owed};
+ghost use Rattle.relay_proxy.specs.Owed.{is_served, outcome_owed, outcome_written};
 ghost use Rattle.relay_proxy.specs.Passed.{Start};
 ghost use Rattle.relay_proxy.specs.Phases.{RunSoFar};
 ghost use Rattle.relay_proxy.specs.Refusals.{attempts_in};
+ghost use Rattle.relay_proxy.specs.Reuse.{may_ask_again};
 ghost use Rattle.relay_proxy.specs.Stock.{items_held};
 ghost use Rattle.relay_proxy.specs.Turn.{world_of, DoesWork, is_connecting, is_over, is_end, links_held, AdvancesOn, HasCause};
 ghost use Rattle.relay_proxy.specs.Uses.{ClientUses, OwesAnswer};
@@ -102,7 +103,7 @@ fn write_on<M: HttpModule + Drop, K: Drop, D: ByteLink, U: Drop, L: ByteLink, C:
 {
     let mut session = session;
     match offer(&mut session, client) {
-        Put::Took(_) => took(calls, session, owed, attempts),
+        Put::Took(_) => took(calls, session, owed, attempts, client.ahead().is_empty()),
         Put::NotReady => Next {
             phase: Phase::Answer(session, owed, attempts),
             step: RunStep::Waited(Pause::NotReady),
@@ -130,19 +131,22 @@ fn write_on<M: HttpModule + Drop, K: Drop, D: ByteLink, U: Drop, L: ByteLink, C:
     }
 }
 
-/// The client took some: more waits, or the answer was written whole.
+/// The client took some: more waits, or the answer was written whole. `still` says that none of its
+/// bytes is ahead.
 fn took<M: HttpModule + Drop, K: Drop, L: ByteLink, C: Drop>(
     calls: &mut Calls<M, K, C>,
     session: Box<HttpSession>,
     owed: Owed,
     attempts: AttemptList,
+    still: bool,
 ) -> Next<L, C>
     ensures calls { Owing session.value owed calls.old calls.new result.phase }
     ensures log { log_of calls.new ≡ log_of calls.old }
     ensures left { 0 < length (pending session.value.writing.output)
         → (result.phase ≡ Phase.Answer session owed attempts) × (result.step ≡ RunStep.Moved) }
     ensures whole { pending session.value.writing.output ≡ []
-        → (result.phase ≡ Phase.Ended (outcome_owed owed) attempts)
+        → (result.phase
+        ≡ Phase.Ended (outcome_written owed (still && may_ask_again session.value)) attempts)
         × (result.step ≡ RunStep.Ended) }
     ensures step { (result.step ≡ RunStep.Moved) ⊎ (result.step ≡ RunStep.Ended) }
     ensures over { is_over result.phase ≡ is_end result.step }
@@ -158,7 +162,16 @@ fn took<M: HttpModule + Drop, K: Drop, L: ByteLink, C: Drop>(
             work: Work::USED,
         };
     }
-    ended(calls, session, owed.outcome(), attempts, Work::USED)
+    let outcome = owed.outcome_written(still && may_ask_again(&session));
+    ended(calls, session, outcome, attempts, Work::USED)
+}
+
+/// Whether the client may ask for more behind a response that was written out: its request lets it, and
+/// the response is over and does not close the connection.
+fn may_ask_again(session: &HttpSession) -> bool
+    ensures { result ≡ may_ask_again session.now }
+{
+    session.lets_ask_again() && (session.response_done() && !session.response_closes())
 }
 
 /// A request that has ended, with no link to hand back. Nothing more is written to its client.

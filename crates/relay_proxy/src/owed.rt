@@ -2,7 +2,7 @@
 //! 15).
 ghost use Rattle.std.specs.Prelude.{◌≡◌, OnOk};
 ghost use Rattle.relay_proxy.specs.Answer.{QueuesAnswer};
-ghost use Rattle.relay_proxy.specs.Owed.{outcome_owed, outcome_failed};
+ghost use Rattle.relay_proxy.specs.Owed.{outcome_owed, outcome_failed, outcome_written};
 
 use crate::outcome::Outcome;
 use relay_hooks::defaults::answer_code;
@@ -23,15 +23,26 @@ pub(crate) enum Owed {
 }
 
 impl Owed {
-    /// The outcome of a request whose answer was written whole.
-    pub(crate) fn outcome(self) -> Outcome
-        ensures { result ≡ outcome_owed self }
+    /// The outcome of a request whose answer was written whole. `again` says that its client may ask
+    /// for more; behind an error none does.
+    pub(crate) fn outcome_written(self, again: bool) -> Outcome
+        ensures { result ≡ outcome_written self again }
     {
         match self {
             Owed::Refused(error) => Outcome::Refused { error },
-            Owed::Ahead(why) => served(why),
-            Owed::Served(error) => served(Some(error)),
+            Owed::Ahead(None) => Outcome::Served {
+                error: None,
+                reuse: again,
+            },
+            Owed::Ahead(Some(error)) | Owed::Served(error) => served(Some(error)),
         }
+    }
+
+    /// The outcome of one whose client may not.
+    pub(crate) fn outcome(self) -> Outcome
+        ensures { result ≡ outcome_owed self }
+    {
+        self.outcome_written(false)
     }
 
     /// The outcome of a request where a write of its answer failed so. One that failed before keeps

@@ -21,7 +21,7 @@ use Rattle.relay_session.specs.declared.writing.Outgoing.{Outgoing}
 use Rattle.relay_proxy.specs.Calls.{CallsSoFar, allowed_by, log_of}
 use Rattle.relay_proxy.specs.Endings.{AttemptsFailed, AttemptsUnlinked, EndsAhead, EndsLinked, EndsUnlinked, EndsWith, FailsToConnect, IsGivenAhead, IsOwedUnlinked, IsUnconnected}
 use Rattle.relay_proxy.specs.Legs.{AreLegs, BeginsAt, Leg, behind}
-use Rattle.relay_proxy.specs.Owed.{Owes, IsAnswering}
+use Rattle.relay_proxy.specs.Owed.{Owes, IsAnswering, TellsOwed}
 use Rattle.relay_proxy.specs.Passed.{World, Start, called_to}
 use Rattle.relay_proxy.specs.Phases.{RunSoFar, IsBroken, IsCalm, IsConnecting, LacksLink, PhaseHolds, IsAt}
 use Rattle.relay_proxy.specs.Request.{StepsOn, ComesToEnd, ended_after, is_done}
@@ -104,6 +104,7 @@ connecting_later s p link ahead f g session tries at = record {
   is_left = at.is_left;
   quiet = at.quiet;
   begins = at.begins;
+  unread = at.unread;
   written = at.written;
   unsent = at.unsent;
   are_tries = at.are_tries;
@@ -177,7 +178,7 @@ given_later s p link ahead f g None text told (inr fails) = inr (
 given_later s p link ahead f g (Some e) text told given = given
 
 -- nor does what such hooks made of the request
-ahead_later : (s : Start) (p : Passed) (link : LinkState) (ahead : List ℕ) (f g : ℕ)
+abbrev ahead_later : (s : Start) (p : Passed) (link : LinkState) (ahead : List ℕ) (f g : ℕ)
     (told : Option Error) → EndsAhead s p (world_with link ahead f) told
     → EndsAhead s p (world_with link ahead g) told
 ahead_later s p link ahead f g told ends = record {
@@ -194,8 +195,11 @@ unlinked_later : (s : Start) (p : Passed) (link : LinkState) (ahead : List ℕ) 
     (error : Option Error) (reuse : Bool) → f ≤ g
     → EndsUnlinked s p (world_with link ahead f) (Served error reuse)
     → EndsUnlinked s p (world_with link ahead g) (Served error reuse)
-unlinked_later s p link ahead f g None reuse more_faults ends =
-    (ahead_later s p link ahead f g None ends.0, ends.1)
+unlinked_later s p link ahead f g None reuse more_faults ends = record {
+  ends = ahead_later s p link ahead f g None ends.ends;
+  calm = ends.calm;
+  goes_back = ends.goes_back;
+}
 unlinked_later s p link ahead f g (Some e) reuse more_faults ends = (by ends.0, ends.1)
   where
     by : FailsToConnect s p (world_with link ahead f) e
@@ -303,15 +307,32 @@ module _ {L : Type 0} (state : L → LinkState) (start_at : L → LinkStart) whe
   owes_later s p link ahead f g (r ∷ own) (due.Ahead why) text more_faults owes = owes
   owes_later s p link ahead f g (r ∷ own) (due.Served e) text more_faults owes = owes
 
+  -- and its session tells the same
+  told_later : (s : Start) (p : Passed) (link : LinkState) (ahead : List ℕ) (f g : ℕ)
+      (own : List (Returned L)) (owed : Owed) (text : List ℕ) (more_faults : f ≤ g)
+      (owes : Owes state start_at s p (world_with link ahead f) own owed text)
+      (session : HttpSession)
+      → TellsOwed state start_at s p (world_with link ahead f) own owed text owes session
+      → TellsOwed state start_at s p (world_with link ahead g) own owed text
+      (owes_later s p link ahead f g own owed text more_faults owes) session
+  unfolding owes_later
+  told_later s p link ahead f g [] (due.Refused error) text more_faults owes session tells = tt
+  told_later s p link ahead f g [] (due.Ahead None) text more_faults owes session tells = tells
+  told_later s p link ahead f g [] (due.Ahead (Some e)) text more_faults owes session tells = tt
+  told_later s p link ahead f g [] (due.Served e) text more_faults owes session tells = tt
+  told_later s p link ahead f g (r ∷ own) owed text more_faults owes session tells = tt
+
   -- it is given the answer at a higher count too
   answers_later : (s : Start) (p : Passed) (link : LinkState) (ahead : List ℕ) (f g : ℕ)
-      (own : List (Returned L)) (output : Outgoing) (owed : Owed)
+      (own : List (Returned L)) (session : HttpSession) (owed : Owed)
       (attempts : List AttemptRecord) → f ≤ g
-      → IsAnswering state start_at s p (world_with link ahead f) own output owed attempts
-      → IsAnswering state start_at s p (world_with link ahead g) own output owed attempts
-  answers_later s p link ahead f g own output owed attempts more_faults answers = record {
+      → IsAnswering state start_at s p (world_with link ahead f) own session owed attempts
+      → IsAnswering state start_at s p (world_with link ahead g) own session owed attempts
+  answers_later s p link ahead f g own session owed attempts more_faults answers = record {
     text = answers.text;
     owes = owes_later s p link ahead f g own owed answers.text more_faults answers.owes;
+    tells = told_later s p link ahead f g own owed answers.text more_faults answers.owes session
+        answers.tells;
     waits = answers.waits;
     made = answers.made;
   }
@@ -359,7 +380,7 @@ module _ {L C : Type 0} (state : L → LinkState) (start_at : L → LinkStart) w
   at_later s p link ahead f g (Close l lease keep outcome) here going more_faults at =
       absurd (true≢false going)
   at_later s p link ahead f g (Answer session owed attempts) here going more_faults at =
-      answers_later state start_at s p link ahead f g [] session.value.writing.output owed
+      answers_later state start_at s p link ahead f g [] session.value owed
       attempts more_faults at
   at_later s p link ahead f g (Ended NoRequest attempts) here going more_faults at =
       absurd (true≢false going)
@@ -414,7 +435,7 @@ module _ {L C : Type 0} (state : L → LinkState) (start_at : L → LinkStart) w
       holds = absurd holds
   holds_later s p link ahead f g (r ∷ own) (Answer session owed attempts) here going more_faults
       holds =
-      answers_later state start_at s p link ahead f g (r ∷ own) session.value.writing.output owed
+      answers_later state start_at s p link ahead f g (r ∷ own) session.value owed
       attempts more_faults holds
   holds_later s p link ahead f g (r ∷ own) (Ended NoRequest attempts) here going more_faults
       holds = absurd (true≢false going)

@@ -1,5 +1,5 @@
 -- What was queued waits, or nothing does.
-use Rattle.std.proofs.Common.{refl}
+use Rattle.std.proofs.Common.{false, refl}
 use Rattle.relay_proxy.specs.Calls.{Owing}
 use Rattle.relay_proxy.proofs.answering.owe.Goals as goal
 
@@ -10,5 +10,5 @@ returns-clause-calls g c = Owing.waits c.args.session (refl, refl) (refl, refl) 
 -- nothing waits, and the session has its client again
 pub returns-then-not-has_pending-clause-calls : goal.returns-then-not-has_pending-clause-calls
 returns-then-not-has_pending-clause-calls g c =
-    Owing.written c.args.session.value _ (rw c.ended.ensures.phase refl) c.outcome.ensures
+    Owing.written c.args.session.value false _ (rw c.ended.ensures.phase refl) c.outcome.ensures
     (refl, refl) c.ended.ensures.calls

@@ -11,5 +11,6 @@ returns-then-has_pending-clause-calls g c =
 -- it was written whole
 pub returns-clause-calls : goal.returns-clause-calls
 returns-clause-calls g c =
-    Owing.written c.args.session.value _ (rw c.ended.ensures.phase refl) c.outcome.ensures
+    Owing.written c.args.session.value _ _ (rw c.ended.ensures.phase refl)
+    c.outcome_written-outcome.ensures
     (refl, refl) c.ended.ensures.calls

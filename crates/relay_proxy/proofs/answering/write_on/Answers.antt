@@ -1,8 +1,11 @@
 -- Each answer of the one write is a turn of the answer.
-use Rattle.std.proofs.Common.{refl, ap, sym}
+use Rattle.std.proofs.Common.{◌≡◌, ◌&&◌, Bool, length, refl, rules, ap, subst, sym}
+use Rattle.std.specs.Prelude.{◌==◌}
 use Rattle.relay_session.specs.declared.session.HttpSession.{HttpSession}
 use Rattle.relay_proxy.specs.Turn.{world_of}
-use Rattle.relay_proxy.specs.declared.machine.Phase.TheVariants.{Answer}
+use Rattle.relay_proxy.specs.Owed.{outcome_written}
+use Rattle.relay_proxy.specs.Reuse.{may_ask_again}
+use Rattle.relay_proxy.specs.declared.machine.Phase.TheVariants.{Answer, Ended}
 use Rattle.relay_proxy.proofs.AnswerSteps.{answer_took, answer_waits, answer_silent, answer_fails, answer_memory, taken_of, moved_or_ended}
 use Rattle.relay_proxy.specs.Calls.{Owing}
 use Rattle.relay_proxy.proofs.LastCalls.{owing_as, shows_same}
@@ -11,12 +14,16 @@ use Rattle.relay_proxy.proofs.answering.write_on.Goals as goal
 -- the client took some
 pub returns-in-Took-clause-run : goal.returns-in-Took-clause-run
 returns-in-Took-clause-run g c = λ s p own faults run.
+    let still : c.is_empty.result ≡ (length c.offer.new.client.ahead == 0) = search rules in
     answer_took g.L.ByteLink.state g.L.ByteLink.start s p
     (world_of g.D.ByteLink.state c.args.client.now faults)
     (world_of g.D.ByteLink.state c.offer.new.client faults) own c.args.session c.args.owed
     c.args.attempts refl _ _ (ap (λ (k : HttpSession). k.writing.output) c.deref_mut.ensures.value)
-    run _ _ _ refl c.in-Took.ensures.answer (λ long. (c.took.ensures.left long).0)
-    (λ none. (c.took.ensures.whole none).0)
+    run _ _ _ refl (rw c.deref_mut.ensures.value at c.offer.ensures.same) c.in-Took.ensures.answer
+    (λ long. (c.took.ensures.left long).0)
+    (λ none. subst (λ (b : Bool). c.took.result.phase
+    ≡ Ended (outcome_written c.args.owed (b && may_ask_again c.offer.new.session))
+    c.args.attempts) still (c.took.ensures.whole none).0)
 
 -- it has to be waited for
 pub returns-in-NotReady-clause-run : goal.returns-in-NotReady-clause-run
@@ -25,7 +32,7 @@ returns-in-NotReady-clause-run g c = λ s p own faults run.
     (world_of g.D.ByteLink.state c.args.client.now faults)
     (world_of g.D.ByteLink.state c.offer.new.client faults) own c.args.session c.args.owed
     c.args.attempts refl _ _ (ap (λ (k : HttpSession). k.writing.output) c.deref_mut.ensures.value)
-    run _ refl c.in-NotReady.ensures.answer
+    run _ refl (rw c.deref_mut.ensures.value at c.offer.ensures.same) c.in-NotReady.ensures.answer
 
 -- it is silent
 pub returns-in-Silent-clause-run : goal.returns-in-Silent-clause-run
@@ -34,7 +41,7 @@ returns-in-Silent-clause-run g c = λ s p own faults run.
     (world_of g.D.ByteLink.state c.args.client.now faults)
     (world_of g.D.ByteLink.state c.offer.new.client faults) own c.args.session c.args.owed
     c.args.attempts refl _ _ (ap (λ (k : HttpSession). k.writing.output) c.deref_mut.ensures.value)
-    run _ refl c.in-Silent.ensures.answer
+    run _ refl (rw c.deref_mut.ensures.value at c.offer.ensures.same) c.in-Silent.ensures.answer
 
 -- the write failed
 pub returns-in-Failed-clause-run : goal.returns-in-Failed-clause-run

@@ -1,5 +1,5 @@
 -- What was queued waits, or nothing does.
-use Rattle.std.proofs.Common.{refl}
+use Rattle.std.proofs.Common.{false, refl}
 use Rattle.relay_proxy.specs.Calls.{Owing}
 use Rattle.relay_proxy.specs.Leaving.{Answers}
 use Rattle.relay_proxy.proofs.FailSteps.{none_waits, some_waits}
@@ -24,5 +24,5 @@ returns-clause-calls g c = Owing.waits c.args.session (refl, refl) (refl, refl) 
 -- or the session has its client again
 pub returns-then-not-has_pending-clause-calls : goal.returns-then-not-has_pending-clause-calls
 returns-then-not-has_pending-clause-calls g c =
-    Owing.written c.args.session.value _ refl (rw c.outcome.ensures refl) (refl, refl)
+    Owing.written c.args.session.value false _ refl (rw c.outcome.ensures refl) (refl, refl)
     (rw (← c.into_inner.ensures, c.outcome.ensures) c.take_client.ensures)

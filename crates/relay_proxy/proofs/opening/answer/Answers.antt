@@ -52,7 +52,7 @@ returns-in-Ok-clause-run g c = λ s p w o run.
     _ done.text c.owe.result.phase done.is_open (λ some. (c.owe.ensures.some some).0)
     (λ none. (c.owe.ensures.none none).0) done.owed o.untreated
     (closed_tries s (log_of c.args.calls.now) (answers.turn.e ∷ []) c.args.tries
-    before.holds.are_tries) before))
+    before.holds.are_tries) tt before))
 
 pub returns-in-Ok-clause-calls : goal.returns-in-Ok-clause-calls
 returns-in-Ok-clause-calls g c = λ o.

@@ -43,6 +43,8 @@ returns-in-Answered-clause-run g c = λ s p w o run.
     c.call_next.new.calls c.args.context c.call_next.new.context c.args.session.value
     c.call_next.new.client (rw c.deref_mut.ensures.value at c.in-Answered.ensures.turns)
     (sym c.in-Answered.ensures.shown) s p w c.args.tries o run.holds in
+    let none = none_tried (opened_to s (log_of c.args.calls.now)) c.args.tries run.holds.are_tries
+    (o.untried done.before) in
     subst (λ (l : List LogEntry). Advances g.L.ByteLink.state g.L.ByteLink.start (opened_to s l) w
     c.owe.result.phase)
     (sym (owing_log _ _ _ _ _ c.owe.ensures.calls
@@ -54,8 +56,7 @@ returns-in-Answered-clause-run g c = λ s p w o run.
     (untreated _ (g.SV.ProxyHttp.mark_of c.args.app.now) c.args.calls.now c.call_next.new.calls
     c.args.context c.call_next.new.context c.args.session.value c.call_next.new.client
     (rw c.deref_mut.ensures.value at c.in-Answered.ensures.turns) o.untreated)
-    (none_tried (opened_to s (log_of c.args.calls.now)) c.args.tries run.holds.are_tries
-    (o.untried done.before)) run)
+    none (done.tells none.1, run.calm) run)
 
 pub returns-in-Answered-clause-calls : goal.returns-in-Answered-clause-calls
 returns-in-Answered-clause-calls g c = λ o.

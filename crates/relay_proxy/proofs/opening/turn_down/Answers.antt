@@ -18,7 +18,7 @@ returns-clause-run g c =
     (rw c.deref_mut.ensures.value at c.in-Ok.ensures.queued))
     (λ some. (c.owe.ensures.some some).0) (λ none. (c.owe.ensures.none none).0)
     (IsOwedAhead.by_purge head c.new_in-error.result _ accepted order c.new_in-error.ensures refl)
-    untreated tries run
+    untreated tries tt run
 
 -- memory was wanted for it
 pub returns-in_default-clause-run : goal.returns-in_default-clause-run
