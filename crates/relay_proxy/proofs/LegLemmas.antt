@@ -2,6 +2,7 @@
 --
 --   behind_called   the start behind them does not depend on the calls, nor the calls on it
 --   behind_most     how many attempts are allowed is the same behind them
+--   behind_first    and how many calls of the client's link had failed as the request began
 --   behind_more     the start behind one more
 --   front_called    a log that grew has the calls before the end that it had first
 --   legs_later      they were tried again still, once the log has grown
@@ -50,6 +51,11 @@ behind_called s log (leg ∷ legs) = behind_called (rebased s leg) log legs
 pub behind_most : {L : Type 0} (s : Start) (legs : List (Leg L)) → (behind s legs).most ≡ s.most
 behind_most s [] = refl
 behind_most s (leg ∷ legs) = behind_most (rebased s leg) legs
+
+-- and how many calls of the client's link had failed as the request began
+pub behind_first : {L : Type 0} (s : Start) (legs : List (Leg L)) → (behind s legs).first ≡ s.first
+behind_first s [] = refl
+behind_first s (leg ∷ legs) = behind_first (rebased s leg) legs
 
 -- the start behind one more
 pub behind_more : {L : Type 0} (s : Start) (legs : List (Leg L)) (leg : Leg L)

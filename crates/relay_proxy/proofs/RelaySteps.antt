@@ -1,9 +1,9 @@
 -- What a turn of an attempt's exchange makes of the run so far.
-use Rattle.std.proofs.Common.{◌≡◌, ◌≢◌, ◌↔◌, ◌⊎◌, ℕ, ◌+◌, Bool, true, false, not, ◌&&◌, List, [], length, None, Some, refl, sym, ap, subst, ◌∙◌, inl, inr, true≢false}
+use Rattle.std.proofs.Common.{◌≡◌, ◌≢◌, ◌↔◌, ◌⊎◌, ℕ, ◌+◌, Bool, true, false, not, ◌&&◌, ◌||◌, ltb, List, [], length, None, Some, refl, sym, ap, subst, ◌∙◌, inl, inr, true≢false}
 use Rattle.std.specs.Prelude.{IsTrue, ◌==◌, if◌then◌else◌}
 use Rattle.std.specs.Box.{with_value}
 use Rattle.std.specs.Global.{Box}
-use Rattle.std.proofs.lemmas.Bool.{eqb-true}
+use Rattle.std.proofs.lemmas.Bool.{eqb-true, lt-ltb, ltb-true}
 use Rattle.std.proofs.lemmas.List.{nil_from_length}
 use Rattle.http.specs.declared.Version.{Version}
 use Rattle.http.specs.declared.version.Http.{Http}
@@ -14,6 +14,7 @@ use Rattle.relay_tasks.specs.declared.error.Fail.{Fail}
 use Rattle.relay_tasks.specs.declared.error.Fail.TheVariants as fail
 use Rattle.relay_tasks.specs.declared.took.Pause.{Pause}
 use Rattle.relay_tasks.specs.declared.took.Pause.TheVariants.{NotReady, Silent}
+use Rattle.relay_links.specs.Count.{Rose, last_count}
 use Rattle.relay_links.specs.Link.{LinkState, LinkStart}
 use Rattle.relay_h1.specs.Options.{closes}
 use Rattle.relay_h1.specs.Verdict.{IsOpen}
@@ -47,7 +48,7 @@ use Rattle.relay_proxy.specs.Sent.{Sends}
 use Rattle.relay_proxy.specs.Passed.{World, Start, origin_of, asked, TellsClient}
 use Rattle.relay_proxy.specs.Phases.{IsLeased, RunSoFar}
 use Rattle.relay_proxy.specs.Relaying.{turned, TurnsOver, TurnsWithin}
-use Rattle.relay_proxy.specs.Reuse.{client_reusable}
+use Rattle.relay_proxy.specs.Reuse.{client_reusable, has_risen}
 use Rattle.relay_proxy.specs.Turn.{world_with, Advances, HasMoved, HasWaited, MeetsSilence, held_state}
 use Rattle.relay_proxy.specs.Uses.{BothUse, ExchangeMoved, LinkUses, OwesAnswer, PhaseUses, TurnCounts, TurnUses, ups, work_by}
 use Rattle.relay_proxy.proofs.AgainLemmas.{begins_again, rebased_to}
@@ -67,8 +68,9 @@ use Rattle.relay_proxy.proofs.ReuseLemmas.{version_11}
 
 -- ---- whether the client may ask for more
 
--- what the five tests of a client that may ask for more say
-record FivePass (closing none_ahead done is_11 asks_close : Bool) : Type 0 where
+-- what the six tests of a client that may ask for more say
+record SixPass (risen closing none_ahead done is_11 asks_close : Bool) : Type 0 where
+  pub unfailed : risen ≡ false
   pub answers : closing ≡ false
   pub nothing_ahead : none_ahead ≡ true
   pub ended : done ≡ true
@@ -76,36 +78,63 @@ record FivePass (closing none_ahead done is_11 asks_close : Bool) : Type 0 where
   pub asks : asks_close ≡ false
 
 -- together they pass where each says so
-five_pass : (a b c d e : Bool) → ((not a && b) && (c && (d && not e))) ≡ true
-    → FivePass a b c d e
-five_pass false true true true false all = record {
+six_pass : (r a b c d e : Bool) → (not r && ((not a && b) && (c && (d && not e)))) ≡ true
+    → SixPass r a b c d e
+six_pass false false true true true false all = record {
+  unfailed = refl;
   answers = refl;
   nothing_ahead = refl;
   ended = refl;
   version = refl;
   asks = refl;
 }
-five_pass true b c d e all = cc
-five_pass false false c d e all = cc
-five_pass false true false d e all = cc
-five_pass false true true false e all = cc
-five_pass false true true true true all = cc
+six_pass true a b c d e all = cc
+six_pass false true b c d e all = cc
+six_pass false false false c d e all = cc
+six_pass false false true false d e all = cc
+six_pass false false true true false e all = cc
+six_pass false false true true true true all = cc
 
 -- and so the other way round
-all_pass : (a b c d e : Bool) → FivePass a b c d e → ((not a && b) && (c && (d && not e))) ≡ true
-all_pass a b c d e five =
-    rw (five.answers, five.nothing_ahead, five.ended, five.version, five.asks) refl
+all_pass : (r a b c d e : Bool) → SixPass r a b c d e
+    → (not r && ((not a && b) && (c && (d && not e)))) ≡ true
+all_pass r a b c d e six =
+    rw (six.unfailed, six.answers, six.nothing_ahead, six.ended, six.version, six.asks) refl
+
+-- a count that the test says has not risen did not rise
+not_risen : (before after : ℕ) → has_risen before after ≡ false → ¬ (Rose before after)
+not_risen before after test = λ rose.
+    by (ltb before after) (ltb after last_count) refl refl test rose
+  where
+    by : (a b : Bool) → ltb before after ≡ a → ltb after last_count ≡ b → (a || not b) ≡ false
+        → Rose before after → ⊥
+    by true b is fits test rose = cc
+    by false false is fits test rose = cc
+    by false true is fits test rose =
+        true≢false (sym (lt-ltb before after (rose (ltb-true after last_count fits))) ∙ is)
+
+-- and the other way round
+none_risen : (before after : ℕ) → ¬ (Rose before after) → has_risen before after ≡ false
+none_risen before after still = by (ltb before after) (ltb after last_count) refl refl
+  where
+    by : (a b : Bool) → ltb before after ≡ a → ltb after last_count ≡ b → (a || not b) ≡ false
+    by true b is fits = absurd (still (λ few. ltb-true before after is))
+    by false false is fits =
+        absurd (still (λ few. absurd (true≢false (sym (lt-ltb after last_count few) ∙ fits))))
+    by false true is fits = refl
 
 -- what is known of a finished exchange says exactly whether its client may ask for more
 reusable : {L : Type 0} (x : H1Exchange L) (o : Origin) (p : Passed) (closed : Bool)
-    (order : exchange.IsInOrder o p closed) (ahead : List ℕ) (keeps : Bool)
+    (order : exchange.IsInOrder o p closed) (first : ℕ) (w : World) (keeps : Bool)
     → x.exchange.down.session.writing.request ≡ request_of o.head
-    → Leaves o p closed order ahead (is_body_done x.exchange.down.session.reading)
+    → Leaves o p closed order w.ahead (is_body_done x.exchange.down.session.reading)
     x.exchange.up.closes keeps
-    → IsTrue (client_reusable x ahead) ↔ IsClientReusable o p closed order ahead
-reusable x o p closed order ahead keeps answers leaves = (
-  λ passes. by_tests (five_pass closing none done is_11 asks (sym tests ∙ passes)),
-  λ may. tests ∙ all_pass closing none done is_11 asks (record {
+    → IsTrue (client_reusable x w.ahead first w.client.faults)
+    ↔ IsClientReusable o p closed order first w
+reusable x o p closed order first w keeps answers leaves = (
+  λ passes. by_tests (six_pass risen closing none done is_11 asks (sym tests ∙ passes)),
+  λ may. tests ∙ all_pass risen closing none done is_11 asks (record {
+    unfailed = none_risen first w.client.faults may.unfailed;
     answers = leaves.closes ∙ may.answers;
     nothing_ahead = ap (λ (bytes : List ℕ). length bytes == 0) may.nothing_ahead;
     ended = leaves.ended.1 may.ended;
@@ -114,11 +143,14 @@ reusable x o p closed order ahead keeps answers leaves = (
   }),
 )
   where
+    risen : Bool
+    risen = has_risen first w.client.faults
+
     closing : Bool
     closing = x.exchange.up.closes
 
     none : Bool
-    none = length ahead == 0
+    none = length w.ahead == 0
 
     done : Bool
     done = is_body_done x.exchange.down.session.reading
@@ -129,16 +161,19 @@ reusable x o p closed order ahead keeps answers leaves = (
     asks : Bool
     asks = closes o.head.fields
 
-    tests : client_reusable x ahead ≡ ((not closing && none) && (done && (is_11 && not asks)))
-    tests = ap (λ (r : Request). (not closing && none) && (done && lets_ask r)) answers
+    tests : client_reusable x w.ahead first w.client.faults
+        ≡ (not risen && ((not closing && none) && (done && (is_11 && not asks))))
+    tests = ap (λ (r : Request). not risen && ((not closing && none) && (done && lets_ask r)))
+        answers
 
-    by_tests : FivePass closing none done is_11 asks → IsClientReusable o p closed order ahead
-    by_tests five = record {
-      version = version_11 o.head.version five.version;
-      asks = five.asks;
-      answers = sym leaves.closes ∙ five.answers;
-      ended = leaves.ended.0 five.ended;
-      nothing_ahead = nil_from_length ahead (eqb-true (length ahead) 0 five.nothing_ahead);
+    by_tests : SixPass risen closing none done is_11 asks → IsClientReusable o p closed order first w
+    by_tests six = record {
+      version = version_11 o.head.version six.version;
+      asks = six.asks;
+      answers = sym leaves.closes ∙ six.answers;
+      ended = leaves.ended.0 six.ended;
+      nothing_ahead = nil_from_length w.ahead (eqb-true (length w.ahead) 0 six.nothing_ahead);
+      unfailed = not_risen first w.client.faults six.unfailed;
     }
 
 -- ---- what both links tell
@@ -178,7 +213,7 @@ module _ {L : Type 0} (state : L → LinkState) (start_at : L → LinkStart) whe
       (x : H1Exchange L) → IsRelayable head → Sends s.called head sent → w.client.faults ≡ s.faults
       → IsFinished state start_at (origin_of s head sent (start_at (link_of x)).reused) p w.ahead x
       → IsRelayedWhole s p w (state (link_of x)) (start_at (link_of x)) (may_keep x)
-      (client_reusable x w.ahead)
+      (client_reusable x w.ahead s.first w.client.faults)
   relayed_whole s p w head sent x relayable sends calm finished = record {
     head = head;
     sent = sent;
@@ -192,7 +227,7 @@ module _ {L : Type 0} (state : L → LinkState) (start_at : L → LinkStart) whe
     faultless = finished.faultless;
     keeps = finished.keeps;
     goes_back = reusable x (origin_of s head sent (start_at (link_of x)).reused) p
-        (state (link_of x)).ended finished.relayed.order w.ahead (may_keep x)
+        (state (link_of x)).ended finished.relayed.order s.first w (may_keep x)
         finished.answers finished.leaves;
     behind = λ ended. finished.leaves.behind (finished.leaves.ended.1 ended);
   }
@@ -202,7 +237,7 @@ module _ {L : Type 0} (state : L → LinkState) (start_at : L → LinkStart) whe
       (x : H1Exchange L) → IsRelayable head → Sends s.called head sent → w.client.faults ≡ s.faults
       → IsOverEarly state start_at (origin_of s head sent (start_at (link_of x)).reused) p w.ahead x
       → IsRelayedEarly s p w (state (link_of x)) (start_at (link_of x)) (may_keep x)
-      (client_reusable x w.ahead)
+      (client_reusable x w.ahead s.first w.client.faults)
   relayed_early s p w head sent x relayable sends calm over = record {
     head = head;
     sent = sent;
@@ -212,7 +247,7 @@ module _ {L : Type 0} (state : L → LinkState) (start_at : L → LinkStart) whe
     calm = calm;
     unkept = over.unkept;
     goes_back = reusable x (origin_of s head sent (start_at (link_of x)).reused) p
-        (state (link_of x)).ended over.early.order w.ahead (may_keep x) over.answers (record {
+        (state (link_of x)).ended over.early.order s.first w (may_keep x) over.answers (record {
           ended = over.ended;
           behind = over.behind;
           closes = over.closes;
@@ -324,7 +359,8 @@ module _ {L C : Type 0} (state : L → LinkState) (start_at : L → LinkStart) w
       ahead x step.Finished
       → client.faults ≡ v.client.faults
       → Advances {C = C} state start_at s (world_with client ahead v.connect_faults)
-      (Close (link_of x) a.value.lease (may_keep x) (Served None (client_reusable x ahead)))
+      (Close (link_of x) a.value.lease (may_keep x)
+      (Served None (client_reusable x ahead s.first client.faults)))
   finishes s p v client ahead a x run turns calm =
       let head = run.holds.head in
       let sent = run.holds.sent in
@@ -336,7 +372,8 @@ module _ {L C : Type 0} (state : L → LinkState) (start_at : L → LinkStart) w
       ahead x ⊎ IsOverEarly state start_at (origin_of s head sent reused) turns.passed ahead x)
       (sym told.reused) turns.comes_to in
       elim both as (λ _. Advances {C = C} state start_at s w
-      (Close (link_of x) a.value.lease (may_keep x) (Served None (client_reusable x ahead)))) [
+      (Close (link_of x) a.value.lease (may_keep x)
+      (Served None (client_reusable x ahead s.first client.faults)))) [
         | inl finished ↦ record {
           passed = turns.passed;
           run = closing s p turns.passed v client ahead a x _ _ run told
@@ -506,22 +543,22 @@ module _ {L C : Type 0} (state : L → LinkState) (start_at : L → LinkStart)
         within.turns.same_head (off (turned within.attempt within.exchange) within.stands))
 
     -- and of one that finished the end begins
-    pub finished_keeps : {M K : Type 0} (calls new : Calls M K C) (end : Phase L C)
+    pub finished_keeps : {M K : Type 0} (first : ℕ) (calls new : Calls M K C) (end : Phase L C)
         → ((a : Box (Attempt L C)) → next ≡ Relay a
         → end ≡ Close (link_of a.value.exchange) a.value.lease (may_keep a.value.exchange)
-        (Served None (client_reusable a.value.exchange x.ahead)))
+        (Served None (client_reusable a.value.exchange x.ahead first x.client.faults)))
         → ((a : Box (Attempt L C)) → next ≡ Relay a
         → new ≡ closed_with (record calls { at = at.Closing a.value.context (begun None) })
         a.value.exchange.exchange.down.session None)
         → (a : Box (Attempt L C)) → phase ≡ Relay a → KeepsCalls a.value calls new end
-    finished_keeps calls new end closes calls_are a is =
+    finished_keeps first calls new end closes calls_are a is =
         let here = turned within.attempt within.exchange in
         let done : HasFinished within.attempt.value calls new
-        (Served None (client_reusable within.exchange x.ahead)) = record {
+        (Served None (client_reusable within.exchange x.ahead first x.client.faults)) = record {
           client = within.exchange.exchange.down.session;
           head = within.turns.same_head;
           calls = calls_are here within.stands;
-          reuse = client_reusable within.exchange x.ahead;
+          reuse = client_reusable within.exchange x.ahead first x.client.faults;
           served = refl;
         } in
         subst (λ (b : Box (Attempt L C)). KeepsCalls b.value calls new end)
@@ -556,25 +593,27 @@ module _ {L C : Type 0} (state : L → LinkState) (start_at : L → LinkStart)
         within.turns.same_head))
 
     -- a turn that finished the exchange, whose attempt is then to be closed
-    pub finished_within : did.step ≡ step.Finished → x.connect_faults ≡ w.connect_faults
-        → (end : Phase L C)
+    pub finished_within : (first : ℕ) → did.step ≡ step.Finished
+        → x.connect_faults ≡ w.connect_faults → (end : Phase L C)
         → ((a : Box (Attempt L C)) → next ≡ Relay a
         → end ≡ Close (link_of a.value.exchange) a.value.lease (may_keep a.value.exchange)
-        (Served None (client_reusable a.value.exchange x.ahead)))
-        → (s : Start) (p : Passed) → RunSoFar state start_at s p w [] phase
+        (Served None (client_reusable a.value.exchange x.ahead first x.client.faults)))
+        → (s : Start) (p : Passed) → s.first ≡ first → RunSoFar state start_at s p w [] phase
         → Advances {C = C} state start_at s x end
-    finished_within is same end closes s p run =
+    finished_within first is same end closes s p began run =
         let own = own_run s p run in
         let y = within.exchange in
-        let closed : Phase L C =
+        let closed : ℕ → Phase L C = λ begun.
         Close (link_of y) within.attempt.value.lease (may_keep y)
-        (Served None (client_reusable y x.ahead)) in
+        (Served None (client_reusable y x.ahead begun x.client.faults)) in
         subst (λ (k : Phase L C). Advances {C = C} state start_at s x k)
         (sym (closes (turned within.attempt y) within.stands))
-        (subst (λ (n : ℕ). Advances {C = C} state start_at s (world_with x.client x.ahead n) closed)
-        (sym same)
+        (subst (λ (n : ℕ). Advances {C = C} state start_at s (world_with x.client x.ahead n)
+        (closed first)) (sym same)
+        (subst (λ (n : ℕ). Advances {C = C} state start_at s
+        (world_with x.client x.ahead w.connect_faults) (closed n)) began
         (finishes state start_at s p w x.client x.ahead within.attempt y own
-        (own_turn s p step.Finished own is) (within.turns.calm (ap says_failed is))))
+        (own_turn s p step.Finished own is) (within.turns.calm (ap says_failed is)))))
 
     -- a turn that failed, and what follows
     pub failed_within : (why : Fail) → did.step ≡ step.Failed why
@@ -771,24 +810,24 @@ module _ {L C : Type 0} (state : L → LinkState) (start_at : L → LinkStart)
         (state (link_of within.exchange))
     finished_both is = inr (refl, asked_so step.Finished is)
 
-    pub finished_uses_within : did.step ≡ step.Finished → (end : Phase L C)
+    pub finished_uses_within : (first : ℕ) → did.step ≡ step.Finished → (end : Phase L C)
         → ((a : Box (Attempt L C)) → next ≡ Relay a
         → end ≡ Close (link_of a.value.exchange) a.value.lease (may_keep a.value.exchange)
-        (Served None (client_reusable a.value.exchange x.ahead)))
+        (Served None (client_reusable a.value.exchange x.ahead first x.client.faults)))
         → TurnUses 0 w.client x.client (held_state state phase)
         (λ link. held_state state end ≡ Some link)
-    finished_uses_within is end closes =
+    finished_uses_within first is end closes =
         uses_at 0 end (ap (λ (k : Phase L C). held_state state k)
         (closes (turned within.attempt within.exchange) within.stands)) (finished_both is)
 
-    pub finished_counts_within : did.step ≡ step.Finished → (end : Phase L C)
+    pub finished_counts_within : (first : ℕ) → did.step ≡ step.Finished → (end : Phase L C)
         → ((a : Box (Attempt L C)) → next ≡ Relay a
         → end ≡ Close (link_of a.value.exchange) a.value.lease (may_keep a.value.exchange)
-        (Served None (client_reusable a.value.exchange x.ahead)))
+        (Served None (client_reusable a.value.exchange x.ahead first x.client.faults)))
         → (a : Box (Attempt L C)) (n : ℕ) → phase ≡ Relay a
         → LinkUses state start_at n (link_of a.value.exchange)
         → TurnCounts state start_at n w.client x.client 0 [] end
-    finished_counts_within is end closes =
+    finished_counts_within first is end closes =
         counts_at 0 end (end_asked end _ _ _
         (closes (turned within.attempt within.exchange) within.stands)) (finished_both is)
 

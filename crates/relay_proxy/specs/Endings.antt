@@ -281,16 +281,17 @@ EndsUnlinked s p w TurnLimit = IsUnsent p
 EndsUnlinked s p w OutOfMemory = IsUnsent p
 
 -- a client's connection may serve another request: it speaks HTTP/1.1, neither its head nor that of
--- the response asks to close, and its request has ended with no byte behind it (RFC 9112, section
--- 9.3)
+-- the response asks to close, and its request has ended with no byte behind it; and no call of its
+-- link failed since the request began, when so many had (RFC 9112, section 9.3)
 pub record IsClientReusable
     (o : Origin) (p : Passed) (closed : Bool) (order : exchange.IsInOrder o p closed)
-    (ahead : List ℕ) : Type 0 where
+    (first : ℕ) (w : World) : Type 0 where
   pub version : o.head.version ≡ HTTP_11
   pub asks : closes o.head.fields ≡ false
   pub answers : list_any asks_to_close order.read ≡ false
   pub ended : HasEnded order
-  pub nothing_ahead : ahead ≡ []
+  pub nothing_ahead : w.ahead ≡ []
+  pub unfailed : ¬ (Rose first w.client.faults)
 
 -- request and response were relayed; how far the request was is said by `IsRelayed`
 pub record IsRelayedWhole
@@ -316,7 +317,7 @@ pub record IsRelayedWhole
       → ¬ (Rose start.faults link.faults) → keep ≡ true
   -- the client goes back exactly where it may ask for more
   pub goes_back : IsTrue reuse
-      ↔ IsClientReusable (origin_of s head sent start.reused) p link.ended relayed.order w.ahead
+      ↔ IsClientReusable (origin_of s head sent start.reused) p link.ended relayed.order s.first w
   -- a request that has ended is all that was taken from the client's bytes
   pub behind : HasEnded relayed.order
       → IsWhole (asked s p) (body_of relayed.order.pieces) w.ahead
@@ -336,7 +337,7 @@ pub record IsRelayedEarly
   pub unkept : keep ≡ false
   -- the client goes back exactly where it may ask for more
   pub goes_back : IsTrue reuse
-      ↔ IsClientReusable (origin_of s head sent start.reused) p link.ended early.order w.ahead
+      ↔ IsClientReusable (origin_of s head sent start.reused) p link.ended early.order s.first w
   -- a request that has ended is all that was taken from the client's bytes
   pub behind : HasEnded early.order
       → IsWhole (asked s p) (body_of early.order.pieces) w.ahead

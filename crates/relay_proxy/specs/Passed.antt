@@ -23,13 +23,15 @@ pub record World : Type 0 where
   pub connect_faults : ℕ
 
 -- the places and counts at which a request began, or at which one of its attempts left it for
--- another; how many attempts it may make; the calls of hooks that were made for it before its end,
--- and the one in which an error was answered, if any; the attempts up to the last one that had a
--- link and was tried again, and how many were refused a link up to there
+-- another; how many calls of the client's link had failed when the request began, whatever attempts
+-- it made since; how many attempts it may make; the calls of hooks that were made for it before its
+-- end, and the one in which an error was answered, if any; the attempts up to the last one that had
+-- a link and was tried again, and how many were refused a link up to there
 pub record Start : Type 0 where
   pub ahead : List ℕ
   pub given : ℕ
   pub taken : ℕ
+  pub first : ℕ
   pub faults : ℕ
   pub connect_faults : ℕ
   pub read_faults : ℕ
@@ -46,6 +48,7 @@ start_of most w = record {
   ahead = w.ahead;
   given = told_length w.client.given;
   taken = told_length w.client.taken;
+  first = w.client.faults;
   faults = w.client.faults;
   connect_faults = w.connect_faults;
   read_faults = told_length w.client.read_faults;
@@ -58,7 +61,7 @@ start_of most w = record {
 }
 
 -- the same start, with the client's link where it stands: what was written to it and how many of
--- its calls failed count from there
+-- its calls failed count from there; how many had failed when the request began stays
 abbrev pub based : Start → LinkState → Start
 based s client = record s { taken = told_length client.taken; faults = client.faults }
 

@@ -1,16 +1,22 @@
 -- Whether the client may ask for more, by what is known of a finished exchange, or of the session
 -- of a request that hooks answered (RFC 9112, section 9.3).
-use Rattle.std.specs.Prelude.{ℕ, Bool, not, ◌&&◌, ◌==◌, List, length}
+use Rattle.std.specs.Prelude.{ℕ, Bool, not, ◌&&◌, ◌||◌, ◌==◌, List, length, nat_lt}
+use Rattle.relay_links.specs.Count.{last_count}
 use Rattle.relay_session.specs.Response.{is_over}
 use Rattle.relay_session.specs.Session.{lets_ask_again}
 use Rattle.relay_session.specs.declared.session.HttpSession.{HttpSession}
 use Rattle.relay_attempt.specs.declared.h1_exchange.H1Exchange.{H1Exchange}
 
--- the client may ask for more: its request lets it, the response does not ask to close, and no byte
--- is ahead
-abbrev pub client_reusable : {L : Type 0} → H1Exchange L → List ℕ → Bool
-client_reusable x ahead =
-    (not x.exchange.up.closes && (length ahead == 0)) && lets_ask_again x.exchange.down.session
+-- a count has risen; one that stands at its last value counts as risen
+abbrev pub has_risen : ℕ → ℕ → Bool
+has_risen before after = nat_lt before after || not (nat_lt after last_count)
+
+-- the client may ask for more: its request lets it, the response does not ask to close, no byte is
+-- ahead, and the count of its link's faults has not risen since the request began
+abbrev pub client_reusable : {L : Type 0} → H1Exchange L → List ℕ → ℕ → ℕ → Bool
+client_reusable x ahead first faults =
+    not (has_risen first faults) && ((not x.exchange.up.closes && (length ahead == 0))
+    && lets_ask_again x.exchange.down.session)
 
 -- the client may ask for more behind a response that was written out: its request lets it, and the
 -- response is over and does not close the connection

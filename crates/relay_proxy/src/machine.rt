@@ -90,21 +90,29 @@ pub(crate) enum Phase<L, C> {
     Ended(Outcome, AttemptList),
 }
 
-/// One request under way: its phase, and what it took so far.
+/// One request under way: its phase, how many calls of the client's link had failed when it began,
+/// and what it took so far.
 pub(crate) struct Machine<L, C> {
     pub(crate) phase: Phase<L, C>,
+    pub(crate) first: u64,
     /// The turns that were counted: those that used a link or did other work.
     pub(crate) turns: u64,
     pub(crate) work: Work,
 }
 
 impl<L, C> Machine<L, C> {
-    /// A request of which nothing was read.
-    pub(crate) fn new() -> Machine<L, C>
-        ensures { result ≡ record { phase = Phase.ReadHead; turns = 0; work = Work.NONE } }
+    /// A request of which nothing was read, on a link of which so many calls have failed.
+    pub(crate) fn new(first: u64) -> Machine<L, C>
+        ensures { result ≡ record {
+          phase = Phase.ReadHead;
+          first = first;
+          turns = 0;
+          work = Work.NONE;
+        } }
     {
         Machine {
             phase: Phase::ReadHead,
+            first,
             turns: 0,
             work: Work::NONE,
         }

@@ -178,6 +178,7 @@ impl<SV: ProxyHttp, K: Connector, P: Purger> HttpProxy<SV, K, P> {
             (world_of D.state client.old (K.fault_count self.now.connector)))
             (log_of result.calls) ≡ start_of self.now.conf.max_retries
             (world_of D.state client.old (K.fault_count self.now.connector)) }
+        ensures first { result.machine.first ≡ (D.state client.old.link).faults }
         ensures no_turns { result.machine.turns ≡ 0 }
         ensures unused { result.machine.work.used ≡ 0 }
         ensures unmoved { result.machine.work.moved ≡ 0 }
@@ -193,7 +194,7 @@ impl<SV: ProxyHttp, K: Connector, P: Purger> HttpProxy<SV, K, P> {
         ensures client { client.new ≡ client.old }
     {
         RequestMachine {
-            machine: Machine::new(),
+            machine: Machine::new(client.link().faults()),
             calls: Calls::new(self.alloc, kept),
         }
     }
@@ -223,7 +224,7 @@ impl<SV: ProxyHttp, K: Connector, P: Purger> HttpProxy<SV, K, P> {
         // counts of tasks and ends is bounded by the bytes that both links gave. Or an attempt that
         // failed handed its link back, and the run begins anew with the next one behind it.
         ensures steps { (s : Start) (p : Passed) (own : List _)
-            → s.most ≡ self.old.conf.max_retries
+            → s.most ≡ self.old.conf.max_retries → s.first ≡ machine.old.machine.first
             → CallsSoFar (allowed_by (SV.allows self.old.inner) SV.Modules.allows)
             (SV.mark_of self.old.inner) machine.old.calls machine.old.machine.phase
             → RunSoFar K.Byte.state K.Byte.start (called_to s (log_of machine.old.calls)) p
@@ -296,6 +297,7 @@ impl<SV: ProxyHttp, K: Connector, P: Purger> HttpProxy<SV, K, P> {
         // A request that has ended stays so.
         ensures rests { is_done machine.old.machine.phase machine.old.calls.at ≡ true
             → result ≡ RunStep.Ended }
+        ensures first { machine.new.machine.first ≡ machine.old.machine.first }
         ensures counted { Counts machine.old.machine.turns machine.new.machine.turns result }
         ensures out { K.out self.new.connector
             + links_held K.Byte.state K.Byte.start machine.old.machine.phase
@@ -331,6 +333,7 @@ impl<SV: ProxyHttp, K: Connector, P: Purger> HttpProxy<SV, K, P> {
         ensures calls { CallsLast (allowed_by (SV.allows self.now.inner) SV.Modules.allows)
             (SV.mark_of self.now.inner) goes_back machine.old.calls machine.new.calls }
         ensures phase { machine.new.machine.phase ≡ machine.old.machine.phase }
+        ensures first { machine.new.machine.first ≡ machine.old.machine.first }
         ensures counts { CountsLast machine.old.calls machine.new.calls machine.old.machine
             machine.new.machine }
         ensures counted { Counts machine.old.machine.turns machine.new.machine.turns result }
@@ -365,7 +368,7 @@ impl<SV: ProxyHttp, K: Connector, P: Purger> HttpProxy<SV, K, P> {
         // counts of tasks and ends is bounded by the bytes that both links gave. Or an attempt that
         // failed handed its link back, and the run begins anew with the next one behind it.
         ensures steps { (s : Start) (p : Passed) (own : List _)
-            → s.most ≡ self.old.conf.max_retries
+            → s.most ≡ self.old.conf.max_retries → s.first ≡ machine.old.machine.first
             → CallsSoFar (allowed_by (SV.allows self.old.inner) SV.Modules.allows)
             (SV.mark_of self.old.inner) machine.old.calls machine.old.machine.phase
             → RunSoFar K.Byte.state K.Byte.start (called_to s (log_of machine.old.calls)) p
@@ -438,6 +441,7 @@ impl<SV: ProxyHttp, K: Connector, P: Purger> HttpProxy<SV, K, P> {
         ensures ended { is_over machine.new.machine.phase ≡ is_end result }
         // A request that has ended stays so.
         ensures rests { is_over machine.old.machine.phase ≡ true → result ≡ RunStep.Ended }
+        ensures first { machine.new.machine.first ≡ machine.old.machine.first }
         ensures counted { Counts machine.old.machine.turns machine.new.machine.turns result }
         ensures out { K.out self.new.connector
             + links_held K.Byte.state K.Byte.start machine.old.machine.phase
@@ -461,6 +465,7 @@ impl<SV: ProxyHttp, K: Connector, P: Purger> HttpProxy<SV, K, P> {
             &self.inner,
             &mut self.connector,
             self.conf.max_retries,
+            machine.machine.first,
             &mut machine.calls,
             client,
             &mut outside.schedule,
@@ -523,7 +528,12 @@ impl<SV: ProxyHttp, K: Connector, P: Purger> HttpProxy<SV, K, P> {
         } }
     {
         let RequestMachine { machine, calls } = machine;
-        let Machine { phase, turns, work } = machine;
+        let Machine {
+            phase,
+            first: _,
+            turns,
+            work,
+        } = machine;
         let ending = finish(self.alloc, &mut self.connector, phase);
         let outcome = calls.outcome(ending.outcome);
         let (log, kept) = calls.into_parts();

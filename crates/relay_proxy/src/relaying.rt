@@ -29,7 +29,7 @@ use crate::calls::Calls;
 use crate::machine::{Attempt, Did, Lease, Next, Phase, RunStep};
 use crate::outcome::Outcome;
 use crate::owed::{Owed, queue_answer};
-use crate::uses::Uses;
+use crate::uses::{Uses, has_risen};
 use crate::work::{Work, work_of, work_of_failure};
 use relay_attempt::H1Exchange;
 use relay_core::Step;
@@ -49,6 +49,7 @@ struct Turned {
 }
 
 /// One turn of a phase that relays, where it stands. The schedule picks the branch of the duplex.
+/// As the request began, `first` calls of the client's link had failed.
 pub(crate) fn relay<
     M: HttpModule + Drop,
     K: Drop,
@@ -59,13 +60,14 @@ pub(crate) fn relay<
     C: Drop,
 >(
     alloc: Global,
+    first: u64,
     calls: &mut Calls<M, K, C>,
     client: &mut Connection<D, U>,
     schedule: &mut H,
     phase: &mut Phase<L, C>,
 ) -> Did
     requires { is_relaying phase.old ≡ true }
-    ensures run { (s : Start) (p : Passed) (faults : ℕ)
+    ensures run { (s : Start) (p : Passed) (faults : ℕ) → s.first ≡ first
         → RunSoFar {C = C} L.state L.start s p (world_of D.state client.old faults) [] phase.old
         → Advances {C = C} L.state L.start s (world_of D.state client.new faults) phase.new }
     ensures cause { (faults : ℕ) → HasCause {C = C} L.state L.start
@@ -119,13 +121,14 @@ pub(crate) fn relay<
             step: RunStep::Waited(Pause::Silent),
             work: Work::NONE,
         },
-        Step::Finished => close_finished(calls, client, phase),
+        Step::Finished => close_finished(first, calls, client, phase),
         Step::Failed(why) => leave_failed(alloc, phase, why, asked),
     }
 }
 
 /// The end of an attempt whose exchange has finished: its link is to go back.
-fn close_finished<M: HttpModule + Drop, K: Drop, D, U, L: ByteLink, C: Drop>(
+fn close_finished<M: HttpModule + Drop, K: Drop, D: ByteLink, U, L: ByteLink, C: Drop>(
+    first: u64,
     calls: &mut Calls<M, K, C>,
     client: &Connection<D, U>,
     phase: &mut Phase<L, C>,
@@ -133,7 +136,8 @@ fn close_finished<M: HttpModule + Drop, K: Drop, D, U, L: ByteLink, C: Drop>(
     requires { is_relaying phase.old ≡ true }
     ensures closes { (a : Box (Attempt L C)) → phase.old ≡ Phase.Relay a
         → let x = a.value.exchange in phase.new ≡ Phase.Close (link_of x) a.value.lease (may_keep x)
-        (Outcome.Served None (client_reusable x client.now.ahead)) }
+        (Outcome.Served None
+        (client_reusable x client.now.ahead first (D.state client.now.link).faults)) }
     ensures calls { (a : Box (Attempt L C)) → phase.old ≡ Phase.Relay a
         → calls.new ≡ closed_with
         (record calls.old { at = At.Closing a.value.context (begun None) })
@@ -152,7 +156,7 @@ fn close_finished<M: HttpModule + Drop, K: Drop, D, U, L: ByteLink, C: Drop>(
         context,
     } = Box::into_inner(phase.take_attempt());
     let keep = exchange.may_keep();
-    let reuse = is_client_reusable(&exchange, client);
+    let reuse = is_client_reusable(&exchange, client, first);
     let served = Outcome::Served { error: None, reuse };
     let (downstream, link) = exchange.into_parts();
     calls.begin_end(context);
@@ -386,13 +390,19 @@ fn turn_over<D: ByteLink, U: Drop, L: ByteLink, H: Schedule>(
     turn
 }
 
-/// Whether the client may ask for more behind a finished exchange.
-fn is_client_reusable<D, U, L: ByteLink>(
+/// Whether the client may ask for more behind a finished exchange. No call of its link may have
+/// failed in the request, be it in an attempt before: as it began, `first` had.
+fn is_client_reusable<D: ByteLink, U, L: ByteLink>(
     exchange: &H1Exchange<L>,
     client: &Connection<D, U>,
+    first: u64,
 ) -> bool
-    ensures { result ≡ client_reusable exchange.now client.now.ahead }
+    ensures { result ≡ client_reusable exchange.now client.now.ahead first
+        (D.state client.now.link).faults }
 {
+    if has_risen(first, client.link().faults()) {
+        return false;
+    }
     if exchange.asks_to_close() || !client.ahead().is_empty() {
         return false;
     }

@@ -32,19 +32,21 @@ use std::alloc::Global;
 use std::mem;
 
 /// One turn: one call of one link, of the connector or of a hook, one verdict on a head, or one
-/// branch of the duplex. A request makes `most` attempts at most. A phase that relays is turned
-/// where it stands, since it has the most turns.
+/// branch of the duplex. A request makes `most` attempts at most, and as it began, `first` calls of
+/// the client's link had failed. A phase that relays is turned where it stands, since it has the
+/// most turns.
 pub(crate) fn take_turn<SV: ProxyHttp, K: Connector, D: ByteLink, U: Drop, H: Schedule>(
     alloc: Global,
     hooks: &SV,
     connector: &mut K,
     most: usize,
+    first: u64,
     calls: &mut Calls<SV::Modules, SV::Kept, SV::CTX>,
     client: &mut Connection<D, U>,
     schedule: &mut H,
     phase: &mut Phase<K::Byte, SV::CTX>,
 ) -> Did
-    ensures turn { (s : Start) (p : Passed) (own : List _) → s.most ≡ most
+    ensures turn { (s : Start) (p : Passed) (own : List _) → s.most ≡ most → s.first ≡ first
         → CallsSoFar (allowed_by (SV.allows hooks.now) SV.Modules.allows) (SV.mark_of hooks.now)
         calls.old phase.old
         → RunSoFar {C = SV.CTX} K.Byte.state K.Byte.start (called_to s (log_of calls.old)) p
@@ -119,7 +121,7 @@ pub(crate) fn take_turn<SV: ProxyHttp, K: Connector, D: ByteLink, U: Drop, H: Sc
         (K.stock connector.old) }
 {
     if phase.is_relaying() {
-        return relay(alloc, calls, client, schedule, phase);
+        return relay(alloc, first, calls, client, schedule, phase);
     }
     move_on(alloc, hooks, connector, most, calls, client, phase)
 }

@@ -2,6 +2,7 @@
 ghost use Rattle.std.specs.Prelude.{◌≡◌, ◌≤◌, ◌⊎◌, ◌↔◌, IsTrue};
 ghost use Rattle.relay_links.specs.Count.{last_count, Rose};
 ghost use Rattle.relay_attempt.specs.Head.{link_of};
+ghost use Rattle.relay_proxy.specs.Reuse.{has_risen};
 
 use relay_attempt::H1Exchange;
 use relay_h1::Connection;
@@ -43,7 +44,8 @@ impl Uses {
 }
 
 /// Whether a count has risen. One that stands at its last value counts as risen.
-fn has_risen(before: u64, after: u64) -> bool
+pub(crate) fn has_risen(before: u64, after: u64) -> bool
+    ensures exact { result ≡ has_risen before after }
     ensures rose { IsTrue result ↔ Rose before after }
     ensures fits { before ≤ last_count }
 {

@@ -40,7 +40,7 @@ use Rattle.relay_proxy.specs.declared.owed.Owed.TheVariants as due
 use Rattle.relay_proxy.specs.declared.proxy.HttpProxy.{HttpProxy}
 use Rattle.relay_proxy.specs.declared.record.AttemptRecord.{AttemptRecord}
 use Rattle.relay_proxy.proofs.EndSteps.{gives_by}
-use Rattle.relay_proxy.proofs.LegLemmas.{behind_called, behind_more, behind_most, legs_later, legs_more}
+use Rattle.relay_proxy.proofs.LegLemmas.{behind_called, behind_more, behind_first, behind_most, legs_later, legs_more}
 use Rattle.relay_proxy.proofs.LastCalls.{calls_logged}
 use Rattle.relay_server.specs.Serving.{Books, books, CountRises, Visit, HaveEnded, EndedRequest, all_held, AreUnderWay, IsUnderWay, Serves, EndsOne, ServesOn}
 use Rattle.relay_server.specs.Serving.AreEnded.{none, one_more}
@@ -572,6 +572,7 @@ module _ {L C D U M : Type 0}
     of_one = record {
       start = under_way.of_one.start;
       limit = under_way.of_one.limit;
+      first = under_way.of_one.first;
       calls = under_way.of_one.calls;
       legs = under_way.of_one.legs;
       are_legs = under_way.of_one.are_legs;
@@ -666,11 +667,12 @@ module _ {L C D U M : Type 0}
     pub counted : now.requests_ended ≡ old.requests_ended
     pub faults : old.faults ≤ now.faults
     pub most : now.most ≡ old.most
+    pub first : next.first ≡ visit.first
     pub calls : CallsSoFar allows mark_of visit.calls visit.phase
         → CallsSoFar allows mark_of next.calls next.phase
     pub front : IsFrontOf (log_of visit.calls) (log_of next.calls)
     pub steps : (s : Start) (p : Passed) (own : List (Returned L)) → s.most ≡ old.most
-        → CallsSoFar allows mark_of visit.calls visit.phase
+        → s.first ≡ visit.first → CallsSoFar allows mark_of visit.calls visit.phase
         → RunSoFar state start_at (called_to s (log_of visit.calls)) p
         (world_of client_state visit.client old.faults) own visit.phase
         → StepsOn state start_at (called_to s (log_of visit.calls))
@@ -701,7 +703,7 @@ module _ {L C D U M : Type 0}
       → GoesFurther old now visit next under.start own
   turn_on old now visit next t u h k i j turn own under =
       by (turn.steps base under.passed under.last (behind_most s under.legs ∙ under.limit)
-      under.calls under.run)
+      (behind_first s under.legs ∙ under.first) under.calls under.run)
     where
       s : Start
       s = under.start
@@ -776,6 +778,7 @@ module _ {L C D U M : Type 0}
           of_one = record {
             start = under.start;
             limit = under.limit ∙ sym turn.most;
+            first = under.first ∙ sym turn.first;
             calls = turn.calls under.calls;
             legs = taken.legs;
             are_legs = taken.are_legs;
@@ -963,14 +966,14 @@ module _ {L C D U M : Type 0}
 
   -- a request begins
   pub begins : (before now : Books L) (visit : Visit D U L C M) (rest : List (Visit D U L C M))
-      (s : Start) (p : Passed) → s.most ≡ now.most
+      (s : Start) (p : Passed) → s.most ≡ now.most → s.first ≡ visit.first
       → called_to s (log_of visit.calls) ≡ s
       → CallsSoFar allows mark_of visit.calls visit.phase
       → RunSoFar state start_at s p (world_of client_state visit.client now.faults) [] visit.phase
       → is_over visit.phase ≡ false → Serves state start_at client_state allows mark_of before now
       rest
       → Serves state start_at client_state allows mark_of before now (visit ∷ rest)
-  begins before now visit rest s p limit called calls run going serves = record {
+  begins before now visit rest s p limit first called calls run going serves = record {
     links = serves.links;
     ended = serves.ended;
     under_way = record {
@@ -979,6 +982,7 @@ module _ {L C D U M : Type 0}
       of_one = record {
         start = s;
         limit = limit;
+        first = first;
         calls = calls;
         legs = [];
         are_legs = tt;

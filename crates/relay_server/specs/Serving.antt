@@ -52,11 +52,13 @@ books returned faults proxy = record {
 abbrev pub CountRises : ℕ → ℕ → Type 0
 CountRises before after = before ≤ last_count → (before ≤ after) × (after ≤ last_count)
 
--- a client's connection, where the request on it stands, and the calls of hooks for it
+-- a client's connection, where the request on it stands, and the calls of hooks for it; and how
+-- many calls of the client's link had failed as it began
 pub record Visit (D U L C M : Type 0) : Type 0 where
   pub client : Connection D U
   pub phase : Phase L C
   pub calls : Calls M U C
+  pub first : ℕ
 
 -- the client's connection is kept for another request
 abbrev pub is_reused : Outcome → Bool
@@ -133,6 +135,7 @@ module _ {L C D U M : Type 0}
       : Type 0 where
     pub start : Start
     pub limit : start.most ≡ most
+    pub first : start.first ≡ visit.first
     pub calls : CallsSoFar allows mark_of visit.calls visit.phase
     pub legs : List (Leg L)
     pub are_legs : AreLegs state start_at (called_to start (log_of visit.calls)) legs

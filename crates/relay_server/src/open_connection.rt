@@ -19,7 +19,8 @@ use std::marker::Model;
 
 /// A client's connection, the request under way on it, and what that asks beside its links: the
 /// branches of the duplex by `ServingSchedule`, no shutdown, and no delay. It means the connection,
-/// where the request stands, and the calls of hooks for it.
+/// where the request stands, the calls of hooks for it, and how many calls of the client's link had
+/// failed as it began.
 pub(crate) struct OpenConnection<SV: ProxyHttp, K: Connector, D> {
     client: Connection<D, SV::Kept>,
     machine: RequestMachine<SV, K>,
@@ -36,6 +37,7 @@ impl<SV: ProxyHttp, K: Connector, D> Model for OpenConnection<SV, K, D> {
       client = o.client;
       phase = o.machine.machine.phase;
       calls = o.machine.calls;
+      first = o.machine.machine.first;
     } };
 }
 

@@ -10,7 +10,7 @@ use Rattle.relay_proxy.proofs.relaying.relay.Goals as goal
 
 -- the exchange moved
 pub returns-in-Moved-clause-run : goal.returns-in-Moved-clause-run
-returns-in-Moved-clause-run g c = λ s p faults run.
+returns-in-Moved-clause-run g c = λ s p faults began run.
     moved_within g.L.ByteLink.state g.L.ByteLink.start
     (world_of g.D.ByteLink.state c.args.client.now faults)
     (world_of g.D.ByteLink.state c.turn_within-asked.new.client faults) _ _ _ _
@@ -26,7 +26,7 @@ returns-in-Moved-clause-cause g c = λ faults.
 
 -- the exchange waits for a link
 pub returns-in-Waited-NotReady-clause-run : goal.returns-in-Waited-NotReady-clause-run
-returns-in-Waited-NotReady-clause-run g c = λ s p faults run.
+returns-in-Waited-NotReady-clause-run g c = λ s p faults began run.
     waited_within g.L.ByteLink.state g.L.ByteLink.start
     (world_of g.D.ByteLink.state c.args.client.now faults)
     (world_of g.D.ByteLink.state c.turn_within-asked.new.client faults) _ _ _ _
@@ -44,7 +44,7 @@ returns-in-Waited-NotReady-clause-cause g c = λ faults.
 
 -- the exchange met silence
 pub returns-in-Waited-Silent-clause-run : goal.returns-in-Waited-Silent-clause-run
-returns-in-Waited-Silent-clause-run g c = λ s p faults run.
+returns-in-Waited-Silent-clause-run g c = λ s p faults began run.
     waited_within g.L.ByteLink.state g.L.ByteLink.start
     (world_of g.D.ByteLink.state c.args.client.now faults)
     (world_of g.D.ByteLink.state c.turn_within-asked.new.client faults) _ _ _ _
@@ -62,16 +62,16 @@ returns-in-Waited-Silent-clause-cause g c = λ faults.
 
 -- the exchange finished
 pub returns-in-Finished-clause-run : goal.returns-in-Finished-clause-run
-returns-in-Finished-clause-run g c = λ s p faults run.
+returns-in-Finished-clause-run g c = λ s p faults began run.
     finished_within g.L.ByteLink.state g.L.ByteLink.start
     (world_of g.D.ByteLink.state c.args.client.now faults)
     (world_of g.D.ByteLink.state c.turn_within-asked.new.client faults) _ _ _ _
-    c.turn_within-asked.ensures.turns c.in-Finished.is refl _ c.close_finished.ensures.closes s p
-    run
+    c.turn_within-asked.ensures.turns c.args.first c.in-Finished.is refl _
+    c.close_finished.ensures.closes s p began run
 
 -- the exchange failed
 pub returns-in-Failed-clause-run : goal.returns-in-Failed-clause-run
-returns-in-Failed-clause-run g c = λ s p faults run.
+returns-in-Failed-clause-run g c = λ s p faults began run.
     failed_within g.L.ByteLink.state g.L.ByteLink.start
     (world_of g.D.ByteLink.state c.args.client.now faults)
     (world_of g.D.ByteLink.state c.turn_within-asked.new.client faults) _ _ _ _
@@ -104,7 +104,7 @@ returns-in-Finished-clause-calls g c =
     finished_keeps g.L.ByteLink.state g.L.ByteLink.start
     (world_of g.D.ByteLink.state c.args.client.now 0)
     (world_of g.D.ByteLink.state c.turn_within-asked.new.client 0) _ _ _ _
-    c.turn_within-asked.ensures.turns c.args.calls.now c.close_finished.new.calls _
+    c.turn_within-asked.ensures.turns c.args.first c.args.calls.now c.close_finished.new.calls _
     c.close_finished.ensures.closes c.close_finished.ensures.calls
 
 pub returns-in-Failed-clause-calls : goal.returns-in-Failed-clause-calls
@@ -178,7 +178,8 @@ returns-in-Finished-clause-uses g c = λ s p a is under.
     (finished_uses_within g.L.ByteLink.state g.L.ByteLink.start
     (world_of g.D.ByteLink.state c.args.client.now 0)
     (world_of g.D.ByteLink.state c.turn_within-asked.new.client 0) _ _ _ _
-    c.turn_within-asked.ensures.turns c.in-Finished.is _ c.close_finished.ensures.closes)
+    c.turn_within-asked.ensures.turns c.args.first c.in-Finished.is _
+    c.close_finished.ensures.closes)
 
 -- one that failed asked one or none
 pub returns-in-Failed-clause-uses : goal.returns-in-Failed-clause-uses
@@ -225,7 +226,8 @@ returns-in-Finished-clause-counts g c = λ s p a n is under had.
     (finished_counts_within g.L.ByteLink.state g.L.ByteLink.start
     (world_of g.D.ByteLink.state c.args.client.now 0)
     (world_of g.D.ByteLink.state c.turn_within-asked.new.client 0) _ _ _ _
-    c.turn_within-asked.ensures.turns c.in-Finished.is _ c.close_finished.ensures.closes a n is had)
+    c.turn_within-asked.ensures.turns c.args.first c.in-Finished.is _
+    c.close_finished.ensures.closes a n is had)
 
 -- by one or none at a failure
 pub returns-in-Failed-clause-counts : goal.returns-in-Failed-clause-counts

@@ -14,7 +14,7 @@ use Rattle.relay_proxy.proofs.turn.take_turn.Goals as goal
 -- a turn of the attempt is a turn
 pub returns-then-is_relaying-clause-turn : goal.returns-then-is_relaying-clause-turn
 returns-then-is_relaying-clause-turn g c =
-    rw c.relay.ensures.log (λ s p own most calls run.
+    rw c.relay.ensures.log (λ s p own most first calls run.
     relaying_turn g.K.Byte.ByteLink.state g.K.Byte.ByteLink.start
     (called_to s (log_of c.args.calls.now)) p
     (world_of g.D.ByteLink.state c.args.client.now
@@ -22,8 +22,13 @@ returns-then-is_relaying-clause-turn g c =
     (world_of g.D.ByteLink.state c.relay.new.client
     (g.K.Connector.fault_count c.args.connector.now)) own
     c.args.phase.now c.relay.new.phase (sym c.is_relaying.ensures ∙ c.if-is_relaying.true) run
-    (λ first. c.relay.ensures.run (called_to s (log_of c.args.calls.now)) p
-    (g.K.Connector.fault_count c.args.connector.now) first))
+    (λ going. c.relay.ensures.run (called_to s (log_of c.args.calls.now)) p
+    (g.K.Connector.fault_count c.args.connector.now) first going))
+
+-- one of another phase does not heed how many calls had failed
+pub returns-clause-turn : goal.returns-clause-turn
+returns-clause-turn g c = λ s p own most first calls run.
+    c.move_on.ensures.turn s p own most calls run
 
 -- its cause is that of the attempt
 pub returns-then-is_relaying-clause-cause : goal.returns-then-is_relaying-clause-cause

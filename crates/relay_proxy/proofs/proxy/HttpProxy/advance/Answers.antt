@@ -10,14 +10,14 @@ use Rattle.relay_proxy.proofs.proxy.HttpProxy.advance.Goals as goal
 
 -- a turn that was settled is a step
 pub returns-clause-steps : goal.returns-clause-steps
-returns-clause-steps g c = λ s p own most calls run.
+returns-clause-steps g c = λ s p own most first calls run.
     let old = called_to s (log_of c.args.machine.now.calls) in
     let new = called_to s (log_of c.take_turn-step.new.calls) in
     rw (c.settle.ensures.faults, c.settle.ensures.refusals, c.settle.ensures.offers)
     (step_on g.K.Byte.ByteLink.state g.K.Byte.ByteLink.start old new p own _ _
     c.args.machine.now.machine.phase c.take_turn-step.new.phase c.settle.new.phase
     c.take_turn-step.result.step _ _ _ _ _ _ _
-    (c.take_turn-step.ensures.turn s p own most calls)
+    (c.take_turn-step.ensures.turn s p own most first calls)
     (λ over. ap (λ (l : List LogEntry). called_to s l) (c.take_turn-step.ensures.still over))
     c.take_turn-step.ensures.rests c.take_turn-step.ensures.returned c.settle.ensures.settles
     c.take_turn-step.ensures.refusals c.take_turn-step.ensures.offers

@@ -12,7 +12,7 @@ use Rattle.relay_proxy.specs.declared.proxy.HttpProxy.{HttpProxy}
 use Rattle.relay_proxy.specs.declared.proxy.Outside.{Outside}
 use Rattle.relay_proxy.proofs.EndSteps.{done_gives, gives_by}
 use Rattle.relay_proxy.proofs.LastCalls.{calls_logged}
-use Rattle.relay_proxy.proofs.LegLemmas.{behind_most}
+use Rattle.relay_proxy.proofs.LegLemmas.{behind_first, behind_most}
 use Rattle.relay_proxy.proofs.UnderWay.{begun, goes_on, all_taken, steps_under, stopped, one_more, no_end, stops_at}
 use Rattle.relay_proxy.proofs.proxy.HttpProxy.process_new_http.Goals as goal
 
@@ -41,6 +41,7 @@ loop-turn-init g c =
       refl,
       c.begin-machine.ensures.calls,
       omega (arith, c.begin-machine.ensures.uncalled),
+      rw c.take_kept-kept.ensures.after at c.begin-machine.ensures.first,
     )
 
 -- a step that stops ends the request
@@ -55,7 +56,8 @@ returns-then-is_stop-clause-processes g c =
     let steps = c.step-step.ensures.steps (behind s before.legs) before.passed before.own
     (behind_most s before.legs
     ∙ ap (λ (k : HttpProxy g.row.SV.Denot g.row.K.Denot g.row.P.Denot). k.conf.max_retries)
-    (sym c.loop-turn.invariant.6)) c.loop-turn.invariant.9 before.run in
+    (sym c.loop-turn.invariant.6))
+    (behind_first s before.legs ∙ sym c.loop-turn.invariant.11) c.loop-turn.invariant.9 before.run in
     let under = steps_under state start s (log_of c.loop-turn.machine.calls)
     (log_of c.step-step.new.machine.calls) _ _ _ _ _ _ _ _ _ _ _ _
     c.loop-turn.machine.machine c.step-step.new.machine.machine _ _ before c.step-step.ensures.front
@@ -116,7 +118,8 @@ loop-turn-preserved g c =
     let steps = c.step-step.ensures.steps (behind s under.legs) under.passed under.own
     (behind_most s under.legs
     ∙ ap (λ (k : HttpProxy g.row.SV.Denot g.row.K.Denot g.row.P.Denot). k.conf.max_retries)
-    (sym c.loop-turn.invariant.6)) c.loop-turn.invariant.9 under.run in
+    (sym c.loop-turn.invariant.6))
+    (behind_first s under.legs ∙ sym c.loop-turn.invariant.11) c.loop-turn.invariant.9 under.run in
     let goes = sym c.is_stop.ensures ∙ c.if-is_stop.false in
     let few : c.loop-turn._turn + 1 ≤ last_count =
     omega (arith, c.loop-turn-test.true, c.ranges.turns.fits) in (
@@ -140,6 +143,7 @@ loop-turn-preserved g c =
           c.loop-turn.invariant.8,
       rw c.step-step.ensures.same (c.step-step.ensures.calls c.loop-turn.invariant.9),
       c.step-step.ensures.logs c.loop-turn.invariant.10,
+      c.step-step.ensures.first ∙ c.loop-turn.invariant.11,
     )
 
 -- where all turns were taken the request ends by its limit

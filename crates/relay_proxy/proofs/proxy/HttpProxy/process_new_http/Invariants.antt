@@ -38,3 +38,4 @@ invariant-loop-turn g l =
     × CallsSoFar (allowed_by (g.SV.ProxyHttp.allows l.self.inner) g.SV.Modules.HttpModule.allows)
     (g.SV.ProxyHttp.mark_of l.self.inner) l.machine.calls l.machine.machine.phase
     × (l.machine.machine.work.called ≤ length (log_of l.machine.calls))
+    × (l.machine.machine.first ≡ (g.D.ByteLink.state l.fn.client.link).faults)

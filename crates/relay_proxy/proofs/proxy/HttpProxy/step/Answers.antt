@@ -25,7 +25,7 @@ returns-in-Some-clause-calls g c = λ so_far.
 
 -- and so does the run so far
 pub returns-in-Some-clause-steps : goal.returns-in-Some-clause-steps
-returns-in-Some-clause-steps g c = λ s p own most so_far run.
+returns-in-Some-clause-steps g c = λ s p own most first so_far run.
     let w = world_of g.D.ByteLink.state c.args.client.now
     (g.K.Connector.fault_count c.args.self.now.connector) in
     let counts = c.call_last.ensures.counts in
@@ -60,7 +60,7 @@ returns-in-Some-clause-steps g c = λ s p own most so_far run.
 
 -- where none is called nothing passes
 pub returns-then-is_over-clause-steps : goal.returns-then-is_over-clause-steps
-returns-then-is_over-clause-steps g c = λ s p own most so_far run.
+returns-then-is_over-clause-steps g c = λ s p own most first so_far run.
     rw c.rest.ensures.same (rests_on g.K.Byte.ByteLink.state g.K.Byte.ByteLink.start
     (called_to s (log_of c.args.machine.now.calls)) (called_to s (log_of c.args.machine.now.calls))
     p (world_of g.D.ByteLink.state c.args.client.now

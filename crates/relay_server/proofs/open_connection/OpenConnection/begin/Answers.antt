@@ -1,5 +1,5 @@
 -- The first request begins, for which no hook was called.
-use Rattle.std.proofs.Common.{refl}
+use Rattle.std.proofs.Common.{refl, sym}
 use Rattle.relay_proxy.specs.Calls.{allowed_by}
 use Rattle.relay_server.specs.Serving.{books}
 use Rattle.relay_server.proofs.ServingLemmas.{begins}
@@ -16,5 +16,7 @@ returns-clause-serves g c = λ before rest serves.
       client = c.begin-machine.new.client;
       phase = c.begin-machine.result.machine.phase;
       calls = c.begin-machine.result.calls;
-    }) rest _ _ refl c.begin-machine.ensures.starts c.begin-machine.ensures.calls
+      first = c.begin-machine.result.machine.first;
+    }) rest _ _ refl (sym c.begin-machine.ensures.first) c.begin-machine.ensures.starts
+    c.begin-machine.ensures.calls
     c.begin-machine.ensures.run c.begin-machine.ensures.going serves

@@ -1,5 +1,5 @@
 -- The request is ended, and the next one begins where the connection is reused.
-use Rattle.std.proofs.Common.{ap, refl}
+use Rattle.std.proofs.Common.{ap, refl, sym}
 use Rattle.relay_proxy.specs.Calls.{allowed_by}
 use Rattle.relay_proxy.specs.declared.proxy.HttpProxy.{HttpProxy}
 use Rattle.relay_server.specs.Serving.{books}
@@ -21,6 +21,7 @@ returns-then-not-is_reused-clause-serves g c = λ before rest ends.
       client = c.self.inside.client;
       phase = c.self.inside.machine.machine.phase;
       calls = c.self.inside.machine.calls;
+      first = c.self.inside.machine.machine.first;
     }) rest
     _ c.end-processed.result.0 (rw c.self.view_is ends) c.end-processed.ensures.ends
     (ap (λ (p : HttpProxy g.row.SV.Denot g.row.K.Denot g.row.P.Denot). p.requests_ended)
@@ -43,7 +44,9 @@ returns-clause-serves g c = λ before rest ends.
       client = c.begin-machine.new.client;
       phase = c.begin-machine.result.machine.phase;
       calls = c.begin-machine.result.calls;
-    }) rest _ _ refl c.begin-machine.ensures.starts c.begin-machine.ensures.calls
+      first = c.begin-machine.result.machine.first;
+    }) rest _ _ refl (sym c.begin-machine.ensures.first) c.begin-machine.ensures.starts
+    c.begin-machine.ensures.calls
     c.begin-machine.ensures.run c.begin-machine.ensures.going
     (rw (ap (λ (p : HttpProxy g.row.SV.Denot g.row.K.Denot g.row.P.Denot). p.inner)
     c.end-processed.ensures.same)
@@ -55,6 +58,7 @@ returns-clause-serves g c = λ before rest ends.
       client = c.self.inside.client;
       phase = c.self.inside.machine.machine.phase;
       calls = c.self.inside.machine.calls;
+      first = c.self.inside.machine.machine.first;
     }) rest
     _ c.end-processed.result.0 (rw c.self.view_is ends) c.end-processed.ensures.ends
     (ap (λ (p : HttpProxy g.row.SV.Denot g.row.K.Denot g.row.P.Denot). p.requests_ended)

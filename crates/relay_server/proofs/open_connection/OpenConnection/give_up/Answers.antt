@@ -21,6 +21,7 @@ returns-clause-serves g c = λ before rest goes.
       client = c.self.inside.client;
       phase = c.self.inside.machine.machine.phase;
       calls = c.self.inside.machine.calls;
+      first = c.self.inside.machine.machine.first;
     }) rest
     _ c.end.result.0 (rw c.self.view_is goes) c.end.ensures.ends
     (ap (λ (p : HttpProxy g.row.SV.Denot g.row.K.Denot g.row.P.Denot). p.requests_ended)

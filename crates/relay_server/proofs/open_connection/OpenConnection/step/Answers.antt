@@ -19,6 +19,7 @@ returns-clause-goes g c = λ before rest goes serves.
       client = c.self.inside.client;
       phase = c.self.inside.machine.machine.phase;
       calls = c.self.inside.machine.calls;
+      first = c.self.inside.machine.machine.first;
     })
     _ rest _ _ _ _ _ _ (rw c.self.view_is serves) (record {
       counted = ap (λ (p : HttpProxy g.row.SV.Denot g.row.K.Denot g.row.P.Denot).
@@ -26,6 +27,7 @@ returns-clause-goes g c = λ before rest goes serves.
       faults = c.step-step.ensures.faults;
       most = ap (λ (p : HttpProxy g.row.SV.Denot g.row.K.Denot g.row.P.Denot).
           p.conf.max_retries) c.step-step.ensures.same;
+      first = c.step-step.ensures.first;
       calls = c.step-step.ensures.calls;
       front = c.step-step.ensures.front;
       steps = c.step-step.ensures.steps;
@@ -45,6 +47,7 @@ returns-clause-ends g c = λ before rest ends serves.
       client = c.self.inside.client;
       phase = c.self.inside.machine.machine.phase;
       calls = c.self.inside.machine.calls;
+      first = c.self.inside.machine.machine.first;
     })
     _ rest _ _ _ _ _ _ (rw c.self.view_is serves) (record {
       counted = ap (λ (p : HttpProxy g.row.SV.Denot g.row.K.Denot g.row.P.Denot).
@@ -52,6 +55,7 @@ returns-clause-ends g c = λ before rest ends serves.
       faults = c.step-step.ensures.faults;
       most = ap (λ (p : HttpProxy g.row.SV.Denot g.row.K.Denot g.row.P.Denot).
           p.conf.max_retries) c.step-step.ensures.same;
+      first = c.step-step.ensures.first;
       calls = c.step-step.ensures.calls;
       front = c.step-step.ensures.front;
       steps = c.step-step.ensures.steps;
