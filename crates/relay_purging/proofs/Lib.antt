@@ -1,0 +1,2 @@
+pub mod QueuedLemmas
+pub mod TurnLemmas
