@@ -173,7 +173,7 @@ answer_ends framing.UntilClose kind = absurd (no_close 0 kind)
 chosen_text : (informs told : Bool) (text want : List ℕ) (other : Sent) → told ≡ true
     → text ≡ want → other.text ≡ want
     → (if informs
-    then (record { text = if told then text else []; counted = 0; place = place.NoHead })
+    then (record { text = if told then text else []; counted = 0; closes = false; place = place.NoHead })
     else other).text ≡ want
 chosen_text true true text want other holds is same = is
 chosen_text true false text want other holds is same = cc

@@ -1,6 +1,7 @@
 -- How the response of a session goes on with its calls.
-use Rattle.std.proofs.Common.{◌≡◌, ℕ, ◌+◌, ◌≤◌, true, false, List, [], ◌∷◌, ◌++◌, length, min, refl, sym, ◌∙◌, ap, subst, arith, append-nil, append_assoc, Option, Some, None, Result, Ok, Err, OnOk, IfErr, inl, inr}
+use Rattle.std.proofs.Common.{◌≡◌, ℕ, ◌+◌, ◌≤◌, true, false, ◌||◌, List, [], ◌∷◌, ◌++◌, length, min, refl, sym, ◌∙◌, ap, subst, arith, append-nil, append_assoc, Option, Some, None, Result, Ok, Err, OnOk, IfErr, inl, inr}
 use Rattle.std.proofs.lemmas.Bool.{cases_Bool}
+use Rattle.std.proofs.Math.Bool.{or-false, or_assoc}
 use Rattle.std.proofs.Math.Seq.{take-nil}
 use Rattle.relay_tasks.specs.Head.{ResponseHead}
 use Rattle.relay_tasks.specs.declared.error.Error.{Error}
@@ -38,17 +39,28 @@ text_more : (old : Writing) (queue : List ℕ) (added : HttpTask)
       place = more.place;
       output = outgoing.Open (queue ++ more.text);
       body_bytes = min (old.body_bytes + more.counted) last_count;
+      closes = old.closes || more.closes;
     }) (tasks ++ added ∷ []) (taken ++ (queue ++ more.text))
 text_more old queue added tasks taken goes t =
     let more = task_sent old.request old.place added in
     let sent : Sent =
-    record { text = taken ++ queue; counted = t.counted; place = old.place } in
+    record {
+      text = taken ++ queue;
+      counted = t.counted;
+      closes = old.closes;
+      place = old.place;
+    } in
     record {
       counted = t.counted + more.counted;
       wire =
           subst
           (λ (l : List ℕ). IsWire old.request (tasks ++ added ∷ [])
-          (record { text = l; counted = t.counted + more.counted; place = more.place }))
+          (record {
+            text = l;
+            counted = t.counted + more.counted;
+            closes = old.closes || more.closes;
+            place = more.place;
+          }))
           (append_assoc taken queue more.text)
           (IsWire-push old.request tasks sent added t.wire goes);
       counts =
@@ -138,7 +150,7 @@ unchanged : (old new : Writing) → old.body_bytes ≤ last_count
     → Grows (nothing_at old.place) old new → new ≡ old
 unchanged old new fits g =
     let bytes : min (old.body_bytes + 0) last_count ≡ old.body_bytes = omega arith in
-    g.grown ∙ rw (append-nil g.queue, bytes, ← g.was_open) refl
+    g.grown ∙ rw (append-nil g.queue, bytes, or-false old.closes, ← g.was_open) refl
 
 -- a call that is refused only where it gives nothing changes nothing then
 pub takes_kept : (output : Outgoing) (sent : Sent) (why : Option Error) (goes : Type 0)
@@ -201,7 +213,7 @@ grows_nothing old queue is_open fits =
     record {
       queue = queue;
       was_open = is_open;
-      grown = rw (append-nil queue, bytes, ← is_open) refl;
+      grown = rw (append-nil queue, bytes, or-false old.closes, ← is_open) refl;
     }
 
 -- no task goes on
@@ -259,6 +271,7 @@ grows_more old middle new first next g h =
       output = outgoing.Open (h.queue ++ next.text);
       body_bytes =
           min (min (old.body_bytes + first.counted) last_count + next.counted) last_count;
+      closes = (old.closes || first.closes) || next.closes;
     } =
     h.grown
     ∙ ap
@@ -266,11 +279,12 @@ grows_more old middle new first next g h =
       place = next.place;
       output = outgoing.Open (h.queue ++ next.text);
       body_bytes = min (m.body_bytes + next.counted) last_count;
+      closes = m.closes || next.closes;
     }) g.grown in
     let text : h.queue ++ next.text ≡ g.queue ++ (first.text ++ next.text) =
     ap (λ (l : List ℕ). l ++ next.text) (sym found)
     ∙ append_assoc g.queue first.text next.text in
-    record { queue = g.queue; was_open = g.was_open; grown = rw (← text, ← bytes) step }
+    record { queue = g.queue; was_open = g.was_open; grown = rw (← text, ← bytes, ← or_assoc old.closes first.closes next.closes) step }
 
 -- one task more
 pub queued_more : (old middle new : Writing) (before : List HttpTask) (added : HttpTask)

@@ -3,7 +3,7 @@ use Rattle.std.proofs.Common.{◌≡◌, ℕ, ◌+◌, ◌^◌, ◌<◌, Bool, t
 use Rattle.std.specs.Prelude.{IsErrOf, IsTrue, ◌↔◌}
 use Rattle.std.proofs.Math.Seq.{take-nil}
 use Rattle.std.proofs.lemmas.List.Elements.{All-nil}
-use Rattle.std.proofs.Math.Bool.{or-false}
+use Rattle.std.proofs.Math.Bool.{or-false, or_assoc}
 use Rattle.std.proofs.lemmas.Bool.{or_parts, cases_Bool}
 use Rattle.relay_tasks.specs.declared.error.Error.{Error}
 use Rattle.relay_tasks.specs.declared.error.Fail.{Fail}
@@ -20,7 +20,7 @@ use Rattle.relay_session.specs.declared.task_text.Request.{Request}
 use Rattle.relay_session.specs.declared.task_text.Place.{Place}
 use Rattle.relay_session.specs.declared.task_text.Pushed.{Pushed}
 use Rattle.relay_session.specs.declared.task_text.Place.TheVariants as place
-use Rattle.relay_session.specs.TaskWire.{Sent, IsFramedInside, with_text, piece_sent, piece_refusal, framed_head_refusal, bytes_of, nothing_at, joined, only_piece, only_end, ends_with, framing_of, shown, framed_head_sent, head_sent, head_at, piece_at, task_sent, refusal, wire, or_later, first_refusal}
+use Rattle.relay_session.specs.TaskWire.{Sent, IsFramedInside, behind_head, ends_connection, piece_sent, piece_refusal, framed_head_refusal, bytes_of, nothing_at, joined, only_piece, only_end, ends_with, framing_of, shown, framed_head_sent, head_sent, head_at, piece_at, task_sent, refusal, wire, or_later, first_refusal}
 use Rattle.relay_session.specs.TaskSteps.{HasPushed, piece_of, pieces_of, ends_body, has_end, Parts, from_head, InBody, WholeBody, SaysBody, IsWire, GoesOnBy, GoesOn, HeadGoesOn, HeadGoesOnAt, PieceGoesOnAt}
 
 -- ---- a piece
@@ -40,25 +40,28 @@ short_goes rest piece ends asked short goes = rw (asked, short) goes
 
 -- ---- what was pushed
 
--- what was pushed behind a text, with that text
-pub pushed_behind : {E : Type 0} (result : Result Pushed E) (text : List ℕ) (sent : Sent)
-    (why : Option Error) (old mid new : List ℕ) → mid ≡ old ++ text
-    → IfOk result (HasPushed sent why mid new)
-    → IfOk result (HasPushed (with_text text sent) why old new)
-pushed_behind (Ok pushed) text sent why old mid new is p =
+-- what was pushed behind a final head, with that head
+pub pushed_behind : (pushed : Pushed) (head : ResponseHead) (framing : Framing) (closes : Bool)
+    (sent : Sent) (why : Option Error) (old mid new : List ℕ)
+    → closes ≡ ends_connection head framing → mid ≡ old ++ response_text head
+    → HasPushed sent why mid new pushed
+    → HasPushed (behind_head head framing sent) why old new (record pushed { closes = closes })
+pushed_behind pushed head framing closes sent why old mid new ends is p =
     record {
-      grown = p.grown ∙ ap (λ (l : List ℕ). l ++ sent.text) is ∙ append_assoc old text sent.text;
+      grown =
+          p.grown ∙ ap (λ (l : List ℕ). l ++ sent.text) is
+          ∙ append_assoc old (response_text head) sent.text;
       counted = p.counted;
+      closes = ends;
       place = p.place;
       refused = p.refused;
     }
-pushed_behind (Err error) text sent why old mid new is p = tt
 
 -- what was pushed of a final head that is framed so
 pub pushed_final : (result : Result Pushed Fail) (found : Option Framing) (framing : Framing)
     (given told : ResponseHead) (ends : Bool) (old new : List ℕ)
     → IsFramedInside (Ok framing) found → told ≡ given
-    → IfOk result (HasPushed (with_text (response_text told) (piece_sent framing [] ends))
+    → IfOk result (HasPushed (behind_head told framing (piece_sent framing [] ends))
     (piece_refusal framing [] ends) old new)
     → IfOk result (HasPushed (framed_head_sent given ends found) (framed_head_refusal ends found)
     old new)
@@ -67,10 +70,10 @@ pushed_final result (Some f) framing given told ends old new is same pushed =
     let one : framing ≡ f = cc in
     subst
     (λ (g : Framing). IfOk result (HasPushed
-    (with_text (response_text given) (piece_sent g [] ends)) (piece_refusal g [] ends) old new)) one
+    (behind_head given g (piece_sent g [] ends)) (piece_refusal g [] ends) old new)) one
     (subst
     (λ (h : ResponseHead). IfOk result (HasPushed
-    (with_text (response_text h) (piece_sent framing [] ends)) (piece_refusal framing [] ends)
+    (behind_head h framing (piece_sent framing [] ends)) (piece_refusal framing [] ends)
     old new)) same pushed)
 
 -- ---- what is sent, joined
@@ -79,7 +82,7 @@ pushed_final result (Some f) framing given told ends old new is same pushed =
 pub joined_nothing : (sent : Sent) → joined sent (nothing_at sent.place) ≡ sent
 joined_nothing sent =
     let counts : sent.counted + 0 ≡ sent.counted = omega arith in
-    rw (append-nil sent.text, counts) refl
+    rw (append-nil sent.text, counts, or-false sent.closes) refl
 
 -- nothing in front
 nothing_joined : (at : Place) (sent : Sent) → joined (nothing_at at) sent ≡ sent
@@ -90,7 +93,7 @@ joined_assoc : (a b c : Sent) → joined a (joined b c) ≡ joined (joined a b) 
 joined_assoc a b c =
     let counts : a.counted + (b.counted + c.counted) ≡ a.counted + b.counted + c.counted =
     omega arith in
-    rw (append_assoc a.text b.text c.text, counts) refl
+    rw (append_assoc a.text b.text c.text, counts, or_assoc a.closes b.closes c.closes) refl
 
 -- ---- tasks, joined
 

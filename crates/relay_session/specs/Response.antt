@@ -1,6 +1,6 @@
 -- The response of a session as its clauses see it: its tasks so far, what the link took of their
 -- text, and what waits.
-use Rattle.std.specs.Prelude.{◌≡◌, ℕ, ◌+◌, ◌<◌, ◌==◌, Bool, true, false, not, ◌&&◌, List, [], ◌∷◌, ◌++◌, length, min, Option, Some, None, Result, Ok, Err}
+use Rattle.std.specs.Prelude.{◌≡◌, ℕ, ◌+◌, ◌<◌, ◌==◌, Bool, true, false, not, ◌&&◌, ◌||◌, List, [], ◌∷◌, ◌++◌, length, min, Option, Some, None, Result, Ok, Err}
 use Rattle.relay_tasks.specs.declared.error.Error.{Error}
 use Rattle.relay_tasks.specs.declared.error.ErrorSource.TheVariants.{Downstream}
 use Rattle.relay_tasks.specs.declared.error.Fail.{Fail}
@@ -53,11 +53,16 @@ is_unqueued response = not (has_head response.place) && is_written_out response.
 -- ---- the tasks so far
 
 -- these tasks are sent as this text, and so many bytes of it are of the body; the response stands
--- behind them
+-- behind them, and knows whether they close the connection
 pub record IsText (response : Writing) (tasks : List HttpTask) (text : List ℕ) : Type 0 where
   pub counted : ℕ
   pub wire : IsWire response.request tasks
-      (record { text = text; counted = counted; place = response.place })
+      (record {
+        text = text;
+        counted = counted;
+        closes = response.closes;
+        place = response.place;
+      })
   pub counts : response.body_bytes ≡ min counted last_count
 
 -- what the link took, and what waits behind it, is the text of the tasks; once a write failed, what
@@ -87,6 +92,7 @@ pub record Grows (sent : Sent) (old new : Writing) : Type 0 where
     place = sent.place;
     output = outgoing.Open (queue ++ sent.text);
     body_bytes = min (old.body_bytes + sent.counted) last_count;
+    closes = old.closes || sent.closes;
   }
 
 -- the task was queued, and is not refused

@@ -137,5 +137,6 @@ pub record HasPushed
     (sent : Sent) (why : Option Error) (old new : List ℕ) (pushed : Pushed) : Type 0 where
   pub grown : new ≡ old ++ sent.text
   pub counted : pushed.counted ≡ sent.counted
+  pub closes : pushed.closes ≡ sent.closes
   pub place : pushed.place ≡ sent.place
   pub refused : pushed.refused ≡ why

@@ -1,6 +1,6 @@
 -- What the tasks of a response are sent as to a client of HTTP/1, in the order in which they come
 -- (RFC 9110, section 15.2; RFC 9112, sections 4, 6 and 7).
-use Rattle.std.specs.Prelude.{◌≡◌, ℕ, ◌+◌, Bool, true, false, not, List, [], ◌∷◌, ◌++◌, length, Option, Some, None, Result, Ok, Err, if◌then◌else◌, unwrap_or}
+use Rattle.std.specs.Prelude.{◌≡◌, ℕ, ◌+◌, Bool, true, false, not, ◌||◌, List, [], ◌∷◌, ◌++◌, length, Option, Some, None, Result, Ok, Err, if◌then◌else◌, unwrap_or}
 use Rattle.relay_tasks.specs.declared.context.Context.TheVariants.{BadFraming}
 use Rattle.relay_tasks.specs.declared.error.Error.{Error}
 use Rattle.relay_tasks.specs.declared.error.ErrorSource.TheVariants.{Internal, Downstream}
@@ -10,8 +10,10 @@ use Rattle.relay_tasks.specs.declared.task.HttpTask.{HttpTask}
 use Rattle.relay_tasks.specs.declared.task.HttpTask.TheVariants as task
 use Rattle.relay_tasks.specs.Head.{ResponseHead}
 use Rattle.relay_h1.specs.declared.framing.Framing.{Framing}
+use Rattle.relay_h1.specs.BodyReader.{is_tunnel, is_until_close}
 use Rattle.relay_h1.specs.BodyWire.{piece_text, body_part, after_piece, end_text, is_short, short_body}
 use Rattle.relay_h1.specs.ClientHead.{is_informational, is_sent_to, client_framing, client_head}
+use Rattle.relay_h1.specs.Options.{closes}
 use Rattle.relay_h1.specs.Verdict.{refused_from}
 use Rattle.relay_h1.specs.Wire.{response_text}
 use Rattle.relay_session.specs.Asked.{method_of}
@@ -19,16 +21,17 @@ use Rattle.relay_session.specs.declared.task_text.Request.{Request}
 use Rattle.relay_session.specs.declared.task_text.Place.{Place}
 use Rattle.relay_session.specs.declared.task_text.Place.TheVariants as place
 
--- what the client is sent: the text, how many bytes of the body stand in it, and where it leaves
--- the response
+-- what the client is sent: the text, how many bytes of the body stand in it, whether it closes the
+-- connection, which then serves no further request, and where it leaves the response
 pub record Sent : Type 0 where
   pub text : List ℕ
   pub counted : ℕ
+  pub closes : Bool
   pub place : Place
 
 -- nothing is sent, and the response stays there
 abbrev pub nothing_at : Place → Sent
-nothing_at stays = record { text = []; counted = 0; place = stays }
+nothing_at stays = record { text = []; counted = 0; closes = false; place = stays }
 
 -- one after the other
 abbrev pub joined : Sent → Sent → Sent
@@ -36,6 +39,7 @@ joined first next =
     record {
       text = first.text ++ next.text;
       counted = first.counted + next.counted;
+      closes = first.closes || next.closes;
       place = next.place;
     }
 
@@ -63,12 +67,13 @@ only_piece rest piece =
     record {
       text = piece_text rest piece;
       counted = length (body_part rest piece);
+      closes = false;
       place = place.Body (after_piece rest piece);
     }
 
 -- the end of a body: nothing is left of it
 abbrev pub only_end : Framing → Sent
-only_end rest = record { text = end_text rest; counted = 0; place = place.Done }
+only_end rest = record { text = end_text rest; counted = 0; closes = false; place = place.Done }
 
 -- the body ends with the piece: the end is asked for, and does not come short
 abbrev pub ends_with : Framing → List ℕ → Bool → Bool
@@ -95,19 +100,29 @@ informed request head =
     record {
       text = if is_sent_to request.version head.status then response_text head else [];
       counted = 0;
+      closes = false;
       place = place.NoHead;
     }
 
--- that text, in front of what follows it
-abbrev pub with_text : List ℕ → Sent → Sent
-with_text text sent = record sent { text = text ++ sent.text }
+-- a final head that is framed so closes its connection: it has the connection option `close`, or its
+-- body lasts until the connection ends (RFC 9112, sections 6.3 and 9.6)
+abbrev pub ends_connection : ResponseHead → Framing → Bool
+ends_connection head framing = is_until_close framing || is_tunnel framing || closes head.fields
+
+-- a final head that is framed so, in front of what is sent of its body
+abbrev pub behind_head : ResponseHead → Framing → Sent → Sent
+behind_head head framing sent =
+    record sent {
+      text = response_text head ++ sent.text;
+      closes = ends_connection head framing;
+    }
 
 -- a final head that is framed so: its text, and the end of the body where it ends with the head;
 -- nothing where its framing is refused
 abbrev pub framed_head_sent : ResponseHead → Bool → Option Framing → Sent
 framed_head_sent head ends None = nothing_at place.NoHead
 framed_head_sent head ends (Some framing) =
-    with_text (response_text head) (piece_sent framing [] ends)
+    behind_head head framing (piece_sent framing [] ends)
 
 -- it is refused where its framing is, and where its end comes short
 abbrev pub framed_head_refusal : Bool → Option Framing → Option Error

@@ -453,6 +453,15 @@ impl HttpSession {
         self.writing.response_done()
     }
 
+    /// Whether what was queued of the response closes the client's connection, which then serves no
+    /// further request: the final head, as the client gets it, has the connection option `close`, or
+    /// its body lasts until the connection ends (RFC 9112, sections 6.3 and 9.6).
+    pub fn response_closes(&self) -> bool
+        ensures { result ≡ self.now.writing.closes }
+    {
+        self.writing.response_closes()
+    }
+
     /// How many bytes of the response's body were queued; the count stands still at its last value.
     pub fn body_bytes_sent(&self) -> u64
         ensures { result ≡ self.now.writing.body_bytes }

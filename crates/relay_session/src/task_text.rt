@@ -3,11 +3,10 @@
 ghost use Rattle.std.specs.Prelude.{◌≡◌, [], false, None, IfOk, OnOk, OnErr, IsOkUnless};
 ghost use Rattle.relay_tasks.specs.Head.{ResponseHead};
 ghost use Rattle.relay_h1.specs.Framing.{response_framing};
-ghost use Rattle.relay_h1.specs.Wire.{response_text};
 ghost use Rattle.relay_h1.specs.BodyWire.{after_piece};
 ghost use Rattle.relay_h1.specs.ClientHead.{client_framing, client_head};
 ghost use Rattle.relay_session.specs.Asked.{method_of, asks_of, request_of, unread, is_http_11, lets_ask};
-ghost use Rattle.relay_session.specs.TaskWire.{piece_sent, piece_refusal, head_sent, head_refusal, with_text, framed_head_sent, framed_head_refusal, framing_of, shown, informed, head_at, head_refusal_at, piece_at, piece_refusal_at, IsFramedInside};
+ghost use Rattle.relay_session.specs.TaskWire.{piece_sent, piece_refusal, head_sent, head_refusal, behind_head, ends_connection, framed_head_sent, framed_head_refusal, framing_of, shown, informed, head_at, head_refusal_at, piece_at, piece_refusal_at, IsFramedInside};
 ghost use Rattle.relay_session.specs.TaskSteps.{GoesOn, HeadGoesOn, HeadGoesOnAt, PieceGoesOnAt, HasPushed};
 
 use bytes::Bytes;
@@ -117,11 +116,12 @@ pub enum Place {
     Done,
 }
 
-/// What was queued for a task: how many bytes of the body, where the response stands then, and
-/// the error where the task is refused.
+/// What was queued for a task: how many bytes of the body, whether it closes the connection, where the
+/// response stands then, and the error where the task is refused.
 #[derive(Clone, Copy)]
 pub(crate) struct Pushed {
     pub(crate) counted: u64,
+    pub(crate) closes: bool,
     pub(crate) place: Place,
     pub(crate) refused: Option<Error>,
 }
@@ -129,10 +129,11 @@ pub(crate) struct Pushed {
 impl Pushed {
     /// Nothing is queued, and the response stays there.
     fn nothing_at(place: Place) -> Pushed
-        ensures { result ≡ record { counted = 0; place = place; refused = None } }
+        ensures { result ≡ record { counted = 0; closes = false; place = place; refused = None } }
     {
         Pushed {
             counted: 0,
+            closes: false,
             place,
             refused: None,
         }
@@ -163,6 +164,7 @@ pub(crate) fn push_piece(
     if !ends {
         return Ok(Pushed {
             counted,
+            closes: false,
             place: Place::Body(left),
             refused: None,
         });
@@ -170,11 +172,13 @@ pub(crate) fn push_piece(
     match out.push_end(&mut body) {
         Ok(()) => Ok(Pushed {
             counted,
+            closes: false,
             place: Place::Done,
             refused: None,
         }),
         Err(Fail::Error(error)) => Ok(Pushed {
             counted,
+            closes: false,
             place: Place::Body(left),
             refused: Some(error.into_down()),
         }),
@@ -263,6 +267,7 @@ fn push_final(
         Ok(framing) => push_framed(framing, out, &head, ends),
         Err(error) => Ok(Pushed {
             counted: 0,
+            closes: false,
             place: Place::NoHead,
             refused: Some(error),
         }),
@@ -277,7 +282,7 @@ fn push_framed(
     ends: bool,
 ) -> Result<Pushed>
     ensures ok { IfOk result (HasPushed
-        (with_text (response_text head.now) (piece_sent framing [] ends))
+        (behind_head head.now framing (piece_sent framing [] ends))
         (piece_refusal framing [] ends) out.old out.new) }
     ensures memory { IsOkUnless result Fail.OutOfMemory }
     ensures kept { OnErr result (out.new ≡ out.old) }
@@ -286,11 +291,25 @@ fn push_framed(
     let before = out.len();
     out.push_response_head(head)?;
     match push_empty(framing, out, ends) {
-        Ok(pushed) => Ok(pushed),
+        Ok(pushed) => Ok(Pushed {
+            closes: ends_connection(head, framing),
+            ..pushed
+        }),
         Err(fail) => {
             out.truncate(before);
             Err(fail)
         }
+    }
+}
+
+/// Whether a final head that is framed so closes its connection: it has the connection option `close`,
+/// or its body lasts until the connection ends (RFC 9112, sections 6.3 and 9.6).
+fn ends_connection(head: &ResponseHeader, framing: Framing) -> bool
+    ensures { result ≡ ends_connection head.now framing }
+{
+    match framing {
+        Framing::UntilClose | Framing::Tunnel => true,
+        Framing::Empty | Framing::Length(_) | Framing::Chunked => closes(head.headers()),
     }
 }
 

@@ -36,6 +36,7 @@ pub struct Writing {
     place: Place,
     output: Outgoing,
     body_bytes: u64,
+    closes: bool,
 }
 
 impl Writing {
@@ -51,6 +52,7 @@ impl Writing {
             place: Place::NoHead,
             output: Outgoing::Open(Output::new(Vec::new(alloc))),
             body_bytes: 0,
+            closes: false,
         }
     }
 
@@ -152,6 +154,15 @@ impl Writing {
             Place::Body(rest) => BodyWriter::new(rest).is_done(),
             Place::Done => true,
         }
+    }
+
+    /// Whether what was queued closes the client's connection, which then serves no further request:
+    /// the final head, as the client gets it, has the connection option `close`, or its body lasts
+    /// until the connection ends (RFC 9112, sections 6.3 and 9.6).
+    pub fn response_closes(&self) -> bool
+        ensures { result ≡ self.now.closes }
+    {
+        self.closes
     }
 
     /// How many bytes of the body were queued; the count stands still at its last value.
@@ -342,6 +353,7 @@ impl Writing {
             Outgoing::Open(queue) => {
                 let pushed = push_head_at(&self.request, self.place, queue, head, ends)?;
                 self.place = pushed.place;
+                self.closes |= pushed.closes;
                 self.body_bytes = self.body_bytes.saturating_add(pushed.counted);
                 passed(pushed.refused)
             }
@@ -358,6 +370,7 @@ impl Writing {
             Outgoing::Open(queue) => {
                 let pushed = push_piece_at(self.place, queue, piece, ends)?;
                 self.place = pushed.place;
+                self.closes |= pushed.closes;
                 self.body_bytes = self.body_bytes.saturating_add(pushed.counted);
                 passed(pushed.refused)
             }

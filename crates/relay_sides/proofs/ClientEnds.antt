@@ -1,5 +1,5 @@
 -- The end of the response: it was asked for before, is queued, or refused.
-use Rattle.std.proofs.Common.{◌≡◌, ℕ, ◌<◌, Bool, true, false, List, [], ◌∷◌, ◌++◌, length, Option, Some, None, Err, refl, sym, ◌∙◌, ap, subst, append-nil, append_assoc, length-append, add-zero, inl, inr, arith}
+use Rattle.std.proofs.Common.{◌≡◌, ℕ, ◌<◌, Bool, true, false, List, [], ◌∷◌, ◌++◌, length, Option, Some, None, Err, refl, sym, ◌∙◌, ap, subst, append-nil, append_assoc, length-append, inl, inr, arith}
 use Rattle.std.specs.Prelude.{◌⊎◌}
 use Rattle.std.proofs.lemmas.Bool.{cases_Bool}
 use Rattle.relay_tasks.specs.declared.error.Error.{Error}
@@ -12,7 +12,7 @@ use Rattle.relay_links.specs.Link.{LinkState}
 use Rattle.relay_h1.specs.BodyWire.{is_short, after_piece}
 use Rattle.relay_session.specs.Response.{IsText, Holds, HoldsOn, IsQueued, IsRefusal, IsFailure, error_of}
 use Rattle.relay_session.specs.TaskSteps.{IsWire}
-use Rattle.relay_session.specs.TaskWire.{or_later, piece_at, piece_refusal_at, refusal, wire}
+use Rattle.relay_session.specs.TaskWire.{Sent, joined, nothing_at, or_later, task_sent, piece_at, piece_refusal_at, refusal, wire}
 use Rattle.relay_session.specs.declared.session.HttpSession.{HttpSession}
 use Rattle.relay_session.specs.declared.task_text.Place.{Place}
 use Rattle.relay_session.specs.declared.task_text.Place.TheVariants as place
@@ -20,7 +20,7 @@ use Rattle.relay_session.specs.declared.task_text.Request.{Request}
 use Rattle.relay_session.specs.declared.writing.Outgoing.{Outgoing}
 use Rattle.relay_session.specs.declared.writing.Outgoing.TheVariants as outgoing
 use Rattle.relay_session.specs.declared.writing.Writing.{Writing}
-use Rattle.relay_session.proofs.WireSteps.{IsWire-push}
+use Rattle.relay_session.proofs.WireSteps.{GoesOnAt, IsWire-push, joined_nothing}
 use Rattle.relay_core.specs.Past.{Origin, DownPast, DownGoes, error_of_result}
 use Rattle.relay_sides.specs.Client.{IsClient, IsClosed, IsSide, IsTold, HasPassed, ClientBlames, CannotEnd}
 use Rattle.relay_sides.specs.Client as client
@@ -44,26 +44,33 @@ end_closes (place.Body rest) passes =
 end_closes place.Done passes = tt
 
 -- an end where no body is open gives nothing
-wire_again : (request : Request) (tasks : List HttpTask) (text : List ℕ) (counted : ℕ) (at : Place)
-    → IsClosed at → IsWire request tasks (record { text = text; counted = counted; place = at })
-    → IsWire request (tasks ++ task.Done ∷ [])
-    (record { text = text; counted = counted; place = at })
-wire_again request tasks text counted place.NoHead closed wire =
-    let pushed = IsWire-push request tasks
-    (record { text = text; counted = counted; place = place.NoHead }) task.Done wire tt in
-    rw (append-nil, add-zero) at pushed
-wire_again request tasks text counted (place.Body rest) closed wire = absurd closed
-wire_again request tasks text counted place.Done closed wire =
-    let pushed = IsWire-push request tasks
-    (record { text = text; counted = counted; place = place.Done }) task.Done wire tt in
-    rw (append-nil, add-zero) at pushed
+wire_again : (request : Request) (tasks : List HttpTask) (sent : Sent) → IsClosed sent.place
+    → IsWire request tasks sent → IsWire request (tasks ++ task.Done ∷ []) sent
+wire_again request tasks sent closed wire =
+    subst (λ (s : Sent). IsWire request (tasks ++ task.Done ∷ []) s) (same sent closed)
+    (IsWire-push request tasks sent task.Done wire (goes sent.place closed))
+  where
+    goes : (at : Place) → IsClosed at → GoesOnAt request at task.Done
+    goes place.NoHead closed = tt
+    goes (place.Body rest) closed = absurd closed
+    goes place.Done closed = tt
+
+    nothing : (at : Place) → IsClosed at → task_sent request at task.Done ≡ nothing_at at
+    nothing place.NoHead closed = refl
+    nothing (place.Body rest) closed = absurd closed
+    nothing place.Done closed = refl
+
+    same : (sent : Sent) → IsClosed sent.place
+        → joined sent (task_sent request sent.place task.Done) ≡ sent
+    same sent closed =
+        ap (joined sent) (nothing sent.place closed) ∙ joined_nothing sent
 
 -- the text of the tasks at a place that is closed stays
 text_again : (now : Writing) (tasks : List HttpTask) (text : List ℕ) → IsClosed now.place
     → IsText now tasks text → IsText now (tasks ++ task.Done ∷ []) text
 text_again now tasks text closed is = record {
   counted = is.counted;
-  wire = wire_again now.request tasks text is.counted now.place closed is.wire;
+  wire = wire_again now.request tasks _ closed is.wire;
   counts = is.counts;
 }
 

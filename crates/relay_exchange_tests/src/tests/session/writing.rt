@@ -1,6 +1,6 @@
 use bytes::Bytes;
 use http::Version;
-use http_header::{CONTENT_LENGTH, HeaderName, HeaderValue, TRANSFER_ENCODING};
+use http_header::{CONNECTION, CONTENT_LENGTH, HeaderName, HeaderValue, TRANSFER_ENCODING};
 use relay_h1::Connection;
 use relay_links::{Put, ScriptLink, WriteItem};
 use relay_session::{Asks, Request, Writing};
@@ -108,6 +108,72 @@ fn writes_a_response_call_by_call(rt: HostRuntime) -> Checked {
         &mut writing,
         "HTTP/1.1 200 OK\r\ncontent-length: 7\r\n\r\nhellowo",
     )
+}
+
+/// Whether a response with that field closes its client's connection.
+fn closes(
+    alloc: Global,
+    method: Asks,
+    version: Version,
+    name: HeaderName,
+    value: &'static [u8],
+) -> relay_tasks::Result<bool> {
+    let mut writing = response(alloc, method, version);
+    writing.write_response_header(head(alloc, 200, name, value)?)?;
+    Ok(writing.response_closes())
+}
+
+#[test]
+fn tells_which_responses_close_the_connection(rt: HostRuntime) -> Checked {
+    let lasts = closes(
+        rt.alloc(),
+        Asks::Other,
+        Version::HTTP_11,
+        CONTENT_LENGTH,
+        b"2",
+    );
+    assert_eq!(rt; lasts, Ok(false));
+    let chunked = closes(
+        rt.alloc(),
+        Asks::Other,
+        Version::HTTP_11,
+        TRANSFER_ENCODING,
+        b"chunked",
+    );
+    assert_eq!(rt; chunked, Ok(false));
+    let old = closes(
+        rt.alloc(),
+        Asks::Other,
+        Version::HTTP_10,
+        TRANSFER_ENCODING,
+        b"chunked",
+    );
+    assert_eq!(rt; old, Ok(true));
+    let unframed = closes(
+        rt.alloc(),
+        Asks::Other,
+        Version::HTTP_11,
+        CONNECTION,
+        b"keep-alive",
+    );
+    assert_eq!(rt; unframed, Ok(true));
+    let kept = closes(
+        rt.alloc(),
+        Asks::Head,
+        Version::HTTP_11,
+        CONNECTION,
+        b"keep-alive",
+    );
+    assert_eq!(rt; kept, Ok(false));
+    let asked = closes(
+        rt.alloc(),
+        Asks::Head,
+        Version::HTTP_11,
+        CONNECTION,
+        b"x, Close",
+    );
+    assert_eq!(rt; asked, Ok(true));
+    Ok(())
 }
 
 #[test]
