@@ -1,12 +1,11 @@
 -- Each call is one turn, and what was queued behind the second is the answer that its entry tells.
-use Rattle.std.proofs.Common.{◌≡◌, ℕ, Bool, true, false, ◌&&◌, not, Option, None, List, [], ◌∷◌, Result, Ok, Err, is_some, refl, sym, ap, subst, ◌∙◌, true≢false, unwrap_or}
+use Rattle.std.proofs.Common.{◌≡◌, ℕ, Bool, true, false, ◌&&◌, not, Option, None, [], ◌∷◌, Result, Ok, Err, is_some, refl, sym, ap, subst, ◌∙◌, true≢false, unwrap_or}
 use Rattle.std.specs.Prelude.{IfOk, IsOkUnless, OnErr, Some}
 use Rattle.relay_tasks.specs.Head.{RequestHead, ResponseHead, new_request}
 use Rattle.relay_tasks.specs.declared.error.Error.{Error}
 use Rattle.relay_tasks.specs.declared.error.Fail.{Fail}
 use Rattle.relay_tasks.specs.declared.error.Fail.TheVariants as fail
 use Rattle.relay_tasks.specs.declared.hook.Hook.TheVariants as hook
-use Rattle.relay_tasks.specs.declared.log.Item.{Item}
 use Rattle.relay_tasks.specs.declared.log.Item.TheVariants as item
 use Rattle.relay_tasks.specs.declared.log.LogEntry.{LogEntry}
 use Rattle.relay_tasks.specs.declared.peer.PurgeAction.{PurgeAction}
@@ -31,10 +30,10 @@ use Rattle.relay_calls.proofs.LogLemmas.{Walk-append}
 use Rattle.relay_phases.specs.Looks.{Looks, Stays}
 use Rattle.relay_phases.specs.Order.{next}
 use Rattle.relay_phases.specs.Order.{Station as station}
-use Rattle.relay_phases.specs.Turns.{CallsOnce, KeepsRest, QueuesNothing, ReadsNothing, Turns}
+use Rattle.relay_phases.specs.Turns.{CallsOnce, KeepsRest, ReadsNothing}
 use Rattle.relay_phases.proofs.TurnLemmas.{KeepsRest-trans, leaves_turn, looks_turn}
-use Rattle.relay_purging.specs.Asked.{Asks, IsAsked}
-use Rattle.relay_purging.specs.Purging.{AnswersWith, AsksAction, PurgesOnce, PurgesTo, head_told, may_go_on}
+use Rattle.relay_purging.specs.Asked.{Asks}
+use Rattle.relay_purging.specs.Purging.{AsksAction, PurgesOnce, PurgesTo, head_told, may_go_on}
 use Rattle.relay_purging.specs.Queued.{QueuesBehind, QueuesHead}
 use Rattle.relay_purging.specs.declared.turn.End.{End}
 use Rattle.relay_purging.specs.declared.turn.End.TheVariants as end

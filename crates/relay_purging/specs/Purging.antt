@@ -1,6 +1,6 @@
 -- The two turns of a purge: what the hook of each was told, what the purger was asked, and what was
 -- queued (RFC 9110, section 15).
-use Rattle.std.specs.Prelude.{◌≡◌, ℕ, Bool, true, false, not, ◌&&◌, is_none, is_some, List, [], Option, None, Some, Result, Ok, Err, if◌then◌else◌}
+use Rattle.std.specs.Prelude.{◌≡◌, ℕ, Bool, true, not, ◌&&◌, is_none, is_some, List, [], Option, None, Some, Result, Ok, Err, if◌then◌else◌}
 use Rattle.relay_tasks.specs.Head.{ResponseHead}
 use Rattle.relay_tasks.specs.declared.error.Fail.{Fail}
 use Rattle.relay_tasks.specs.declared.hook.Hook.TheVariants as hook
