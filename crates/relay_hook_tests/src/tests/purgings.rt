@@ -1,8 +1,7 @@
 //! The two turns of a purge, one behind the other: what the purger is asked, and what the client is
 //! written.
-ghost use Rattle.std.specs.Prelude.{◌≡◌, false, IsSome};
+ghost use Rattle.std.specs.Prelude.{IsSome};
 ghost use Rattle.relay_session.specs.Reading.{head_of};
-ghost use Rattle.relay_hooks.specs.Session.{is_answered};
 
 use crate::tests::closings::hook_at;
 use crate::tests::scripted::app_of;
@@ -16,7 +15,8 @@ use relay_purging::{End, ask_action, purge};
 use relay_script::Action;
 use relay_session::HttpSession;
 use relay_tasks::{
-    ErrorType, Fault, FaultKind, Hook, Peer, PurgeAction, Purged, RequestHeader, Result, RetryType,
+    ErrorType, Fail, Fault, FaultKind, Hook, Peer, PurgeAction, Purged, RequestHeader, Result,
+    RetryType,
 };
 use std::alloc::Global;
 use std::test::Fail as Failed;
@@ -49,26 +49,29 @@ fn purged<A: ProxyHttp + Drop>(
     let client = HttpSession::begun_http1(alloc, head, Framing::Empty);
     let mut session = Session::new_h1_unmade(alloc, client);
     let mut purger = MemoryPurger::new(alloc, answer);
-    let came = run(&app, &mut purger, &mut session, want);
+    let mut ctx = app.new_ctx();
+    let came = run(&app, &mut purger, &mut session, &mut ctx, want);
     release(session);
     release(purger);
+    release(ctx);
     came
 }
 
-/// Takes both turns.
+/// Takes both turns; out of memory where no second one may come.
 fn run<A: ProxyHttp>(
     app: &A,
     purger: &mut MemoryPurger,
     session: &mut Session<A::Modules>,
+    ctx: &mut A::CTX,
     want: &'static [u8],
 ) -> Result<Came>
-    requires read { IsSome (head_of session.old.seen.downstream.reading) }
-    requires open_to { is_answered session.old.seen ≡ false }
+    requires { IsSome (head_of session.old.seen.downstream.reading) }
 {
-    let mut ctx = app.new_ctx();
-    let action = ask_action(app, session, &ctx)?;
-    let end = purge(app, purger, session, &mut ctx, action);
-    release(ctx);
+    let action = ask_action(app, session, ctx)?;
+    if !session.seen.downstream.has_head() || session.seen.downstream.response_written() {
+        return Err(Fail::OutOfMemory);
+    }
+    let end = purge(app, purger, session, ctx, action);
     let log = session.phase_log();
     let hooks = [hook_at(log, 0), hook_at(log, 1), hook_at(log, 2)];
     Ok(Came {
