@@ -10,5 +10,6 @@ mod kept;
 mod modules;
 mod openings;
 mod orders;
+mod purgings;
 mod scripted;
 mod tryings;

@@ -1,0 +1,4 @@
+pub mod QueuedLemmas
+pub mod TurnLemmas
+pub mod ToldLemmas
+pub mod WiderLemmas

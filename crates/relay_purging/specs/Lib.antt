@@ -1,0 +1,4 @@
+pub mod Asked
+pub mod Queued
+pub mod Purging
+pub mod Told
