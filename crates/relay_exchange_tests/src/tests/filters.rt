@@ -53,10 +53,7 @@ fn given(took: &Took<Piece>) -> Option<(usize, bool)> {
 }
 
 /// What a read gives, where the client may be read.
-fn read<SV: ProxyHttp>(
-    side: &mut Hooked<SV, ClientSide>,
-    client: &mut Client,
-) -> Option<(usize, bool)> {
+fn read<SV: ProxyHttp>(side: &mut Hooked<SV>, client: &mut Client) -> Option<(usize, bool)> {
     if !Down::<Client>::may_read(side) {
         return None;
     }
