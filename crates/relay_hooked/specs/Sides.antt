@@ -1,5 +1,5 @@
 -- Both sides of an exchange behind filters, by what a struct of it would hold.
-use Rattle.std.specs.Prelude.{◌≡◌, ◌⊎◌, ◌&&◌, ℕ, Bool, false, List, Option, Some, None}
+use Rattle.std.specs.Prelude.{◌≡◌, ◌⊎◌, ◌&&◌, ℕ, Bool, false, List, length, Option, Some, None}
 use Rattle.relay_tasks.specs.declared.error.Error.{Error}
 use Rattle.relay_tasks.specs.declared.error.Fail.{Fail}
 use Rattle.relay_tasks.specs.declared.log.LogEntry.{LogEntry}
@@ -13,6 +13,7 @@ use Rattle.relay_core.specs.declared.duplex.Duplex.{Duplex}
 use Rattle.relay_core.specs.declared.told.Told.{Told}
 use Rattle.relay_modules.specs.declared.seen.Seen.{Seen}
 use Rattle.relay_hooks.specs.Standing.{Standing}
+use Rattle.relay_calls.specs.Log.{requests_in}
 use Rattle.relay_peer.specs.RequestWriting.{head_in}
 use Rattle.relay_peer.specs.H1Client.{may_keep_client}
 use Rattle.relay_peer.specs.Peer.{IsPeerSide, PeerBlames}
@@ -20,13 +21,14 @@ use Rattle.relay_peer.specs.Peer as peer
 use Rattle.relay_peer.specs.declared.peer_side.PeerSide.{PeerSide}
 use Rattle.relay_sides.specs.Client.{CannotEnd, ClientBlames, ClientRefuses}
 use Rattle.relay_sides.specs.declared.client_side.ClientSide.{ClientSide}
-use Rattle.relay_filters.specs.Hooked.{BlamesOver, IsHooked, RefusesOver, state_over}
+use Rattle.relay_filters.specs.Hooked.{BlamesOver, IsHooked, RefusesOver, shown_done}
 use Rattle.relay_attempt.specs.Exchange.{DownHolds, down_state}
 use Rattle.relay_hooked.specs.Calls.{Filtering, calls_behind}
 
 -- the client's side behind filters: the side over the client's session; the session that the hooks
 -- were given, and the context's mark; how many calls stood in the log before the side's own; and
--- its flags, of which `stand` says that modules stand
+-- its flags, of which `stand` says that modules stand, and `was_done` whether the client's body had
+-- ended when the side stopped. No hook wanted memory, so the client's session is not lost
 pub record Behind : Type 0 where
   pub side : ClientSide
   pub seen : Seen
@@ -38,7 +40,7 @@ pub record Behind : Type 0 where
   pub refused : Bool
   pub stood : Bool
   pub stand : Bool
-  pub held : Bool
+  pub was_done : Bool
   pub stopped : Option Fail
   pub told : Told
 
@@ -52,9 +54,14 @@ filtering b = record {
   refused = b.refused;
 }
 
--- its state
+-- its state, as of a side whose client's session is not lost
 abbrev pub hooked_state : Behind → DownState
-hooked_state b = state_over (down_state b.side) b.ended b.stopped b.held b.told b.seen.log
+hooked_state b = record (down_state b.side) {
+  request_ended = b.ended;
+  body_done = shown_done b.stopped b.was_done (down_state b.side).body_done;
+  told = b.told;
+  calls = length (requests_in b.seen.log);
+}
 
 module _ (allows : Standing → LogEntry → Type 0) (link : LinkState) (ahead : List ℕ) (s : Origin)
     (b : Behind) where
