@@ -264,7 +264,7 @@ exact_unrelayed s p w (Refused told) ends e cause =
     fails_or_left live open_head (endings.IsLeftAlone.is_unrelayable unrelayable is) =
         HasRequest-IsOpen (asked s p) unrelayable.head unrelayable.framing unrelayable.len
         unrelayable.has open_head
-exact_unrelayed s p w (Served None reuse) ends e cause = absurd (ahead_or_left ends.0 cause)
+exact_unrelayed s p w (Served None reuse) ends e cause = absurd (ahead_or_left ends.ends cause)
 exact_unrelayed s p w (Served (Some told) reuse) ends e cause =
     absurd (elim ends.0 as (λ _. ⊥) [
       | inl missed ↦
