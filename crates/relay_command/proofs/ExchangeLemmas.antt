@@ -17,7 +17,8 @@ use Rattle.relay_links.specs.declared.connector.Returned.{Returned}
 use Rattle.relay_links.specs.declared.script_connector.PeerScript.{PeerScript}
 use Rattle.relay_links.specs.declared.script_link.ScriptLink.{ScriptLink}
 use Rattle.relay_proxy.specs.ClosingHooks.{Gives}
-use Rattle.relay_proxy.specs.Endings.{EndsAhead, EndsUnlinked, EndsWith, FailsToConnect, IsFailedAttempt, IsRelayedEarly, IsRelayedWhole, IsUnsentAttempt}
+use Rattle.relay_proxy.specs.Ahead.{IsOwedAhead}
+use Rattle.relay_proxy.specs.Endings.{EndsAhead, EndsUnlinked, EndsWith, FailsToConnect, IsFailedAttempt, IsRelayedEarly, IsRelayedWhole, IsReusableAhead, IsUnsentAttempt}
 use Rattle.relay_proxy.specs.Legs.{AreLegs, Leg, behind, rebased}
 use Rattle.relay_attempt.specs.Passed.{Passed}
 use Rattle.relay_proxy.specs.Passed.{World, Start, TellsClient, called_to, start_of}
@@ -237,7 +238,14 @@ pub clear_again : (s : Start) (p : Passed) (w : World) (own : List (Returned Scr
 clear_again s p w own records ended.NoRequest ends back = cc
 clear_again s p w own records (ended.Refused error) ends back = cc
 clear_again s p w [] records (ended.Served None reuse) ends back =
-    absurd (true≢false (sym back ∙ ends.0.1))
+    clear ends.0.ends.owed (ends.0.goes_back.0 back)
+  where
+    clear : {why : Option Error} {text : List ℕ} (owed : IsOwedAhead s p why text)
+        → IsReusableAhead owed w.ahead → w.ahead ≡ []
+    clear (IsOwedAhead.by_answer head tasks text accepted order is_answer is) may =
+        may.nothing_ahead
+    clear (IsOwedAhead.by_error head e text accepted stopped told is) may = absurd may
+    clear (IsOwedAhead.by_purge head e text accepted order same is) may = absurd may
 clear_again s p w [] records (ended.Served (Some e) reuse) ends back =
     absurd (true≢false (sym back ∙ ends.0.1))
 clear_again s p w (r ∷ []) records (ended.Served None reuse) ends back = clear ends.ends back
