@@ -14,12 +14,14 @@ use Rattle.relay_links.specs.Told.{more}
 use Rattle.relay_links.specs.declared.Returned.{Returned}
 use Rattle.relay_modules.specs.Module.{ModuleCall}
 use Rattle.relay_hooks.specs.Standing.{Standing}
+use Rattle.relay_core.specs.Past.{Origin}
+use Rattle.relay_attempt.specs.Order.{IsInOrder}
 use Rattle.relay_attempt.specs.Passed.{Passed}
 use Rattle.relay_peer.specs.Body.{IsFrontOf}
 use Rattle.relay_session.specs.declared.session.HttpSession.{HttpSession}
 use Rattle.relay_session.specs.declared.writing.Outgoing.{Outgoing}
 use Rattle.relay_proxy.specs.Calls.{CallsSoFar, allowed_by, log_of}
-use Rattle.relay_proxy.specs.Endings.{AttemptsFailed, AttemptsUnlinked, EndsAhead, EndsLinked, EndsUnlinked, EndsWith, FailsToConnect, IsGivenAhead, IsOwedUnlinked, IsUnconnected}
+use Rattle.relay_proxy.specs.Endings.{AttemptsFailed, AttemptsUnlinked, EndsAhead, EndsLinked, EndsUnlinked, EndsWith, FailsToConnect, IsClientReusable, IsGivenAhead, IsOwedUnlinked, IsUnconnected}
 use Rattle.relay_proxy.specs.Legs.{AreLegs, BeginsAt, Leg, behind}
 use Rattle.relay_proxy.specs.Owed.{Owes, IsAnswering, TellsOwed}
 use Rattle.relay_proxy.specs.Passed.{World, Start, called_to}
@@ -225,6 +227,20 @@ attempts_later s p link ahead f g attempts (Some e) reuse (AttemptsFailed.unlink
 attempts_later s p link ahead f g attempts (Some e) reuse (AttemptsFailed.ahead ends made) =
     AttemptsFailed.ahead (ahead_later s p link ahead f g (Some e) ends) made
 
+-- nor does which client may ask for more
+reusable_later : {o : Origin} {p : Passed} {closed : Bool} {order : IsInOrder o p closed}
+    {first : ℕ} (client : LinkState) (ahead : List ℕ) (f g : ℕ)
+    → IsClientReusable o p closed order first (world_with client ahead f)
+    → IsClientReusable o p closed order first (world_with client ahead g)
+reusable_later client ahead f g may = record {
+  version = may.version;
+  asks = may.asks;
+  answers = may.answers;
+  ended = may.ended;
+  nothing_ahead = may.nothing_ahead;
+  unfailed = may.unfailed;
+}
+
 -- one that was served over that link does
 linked_later : (s : Start) (p : Passed) (client : LinkState) (ahead : List ℕ) (f g : ℕ)
     (link : LinkState) (start : LinkStart) (keep : Bool) (told error : Option Error) (reuse : Bool)
@@ -241,7 +257,10 @@ linked_later s p client ahead f g link start keep told None reuse (inl whole) = 
   kept = whole.kept;
   faultless = whole.faultless;
   keeps = whole.keeps;
-  goes_back = whole.goes_back;
+  goes_back = (
+    λ back. reusable_later client ahead f g (whole.goes_back.0 back),
+    λ may. whole.goes_back.1 (reusable_later client ahead g f may),
+  );
   behind = whole.behind;
 })
 linked_later s p client ahead f g link start keep told None reuse (inr early) = inr (record {
@@ -252,7 +271,10 @@ linked_later s p client ahead f g link start keep told None reuse (inr early) = 
   early = early.early;
   calm = early.calm;
   unkept = early.unkept;
-  goes_back = early.goes_back;
+  goes_back = (
+    λ back. reusable_later client ahead f g (early.goes_back.0 back),
+    λ may. early.goes_back.1 (reusable_later client ahead g f may),
+  );
   behind = early.behind;
 })
 linked_later s p client ahead f g link start keep told (Some e) reuse (inl failed) = inl (record {
