@@ -3,12 +3,16 @@
 --
 --   uncounted               tasks behind which no final head was queued count no byte of a body
 --   unqueued_parts          what a response has of which nothing was queued
---   begins_again            such a session begins anew, where the client's link is
+--   out_same, out_still     a session of which nothing waits is written out, and one of which some
+--                           was written is written out as before
+--   begins_out              such a session begins anew once it is written out, where the client's
+--                           link is
+--   begins_there            and where that is then
 --   based_begins            so does one of which nothing was queued or written
 --   begins_any              it begins for each head that may be sent
 --   begins_accepted         its head was accepted
 --   as_begun_before         a session that a hook left as begun was so before
-use Rattle.std.proofs.Common.{◌≡◌, ℕ, ◌+◌, Bool, true, false, not, ◌&&◌, ◌||◌, List, [], ◌∷◌, ◌++◌, length, Option, Some, None, refl, sym, ap, subst, ◌∙◌, inl, inr, true≢false, arith, le_refl}
+use Rattle.std.proofs.Common.{◌≡◌, ℕ, ◌+◌, Bool, true, false, not, ◌&&◌, ◌||◌, List, [], ◌∷◌, ◌++◌, length, Option, Some, None, refl, sym, ap, subst, ◌∙◌, inl, inr, true≢false, arith, le_refl, append-nil}
 use Rattle.std.proofs.lemmas.Bool.{eqb-true}
 use Rattle.std.proofs.lemmas.List.{nil_from_length}
 use Rattle.std.specs.Prelude.{◌==◌, ◌⊎◌, if◌then◌else◌, min}
@@ -17,7 +21,7 @@ use Rattle.relay_tasks.specs.declared.task.HttpTask.{HttpTask}
 use Rattle.relay_tasks.specs.declared.task.HttpTask.TheVariants as task
 use Rattle.relay_links.specs.Count.{last_count}
 use Rattle.relay_links.specs.Link.{LinkState}
-use Rattle.relay_links.specs.Told.{told_length}
+use Rattle.relay_links.specs.Told.{Since, told_length}
 use Rattle.relay_links.proofs.SinceLemmas.{Since-start}
 use Rattle.relay_h1.specs.BodyReader.{is_done}
 use Rattle.relay_h1.specs.BodyWire.{after_piece}
@@ -45,7 +49,9 @@ use Rattle.relay_sides.specs.Client.{BeginsBehind, IsClient, queued}
 use Rattle.relay_modules.specs.declared.seen.Seen.{Seen}
 use Rattle.relay_opening.proofs.ToldLemmas.{reads_kept}
 use Rattle.relay_phases.specs.Turns.{ReadsNothing}
+use Rattle.relay_peer.specs.Faults.{TellsSince}
 use Rattle.relay_attempt.specs.Passed.{Passed}
+use Rattle.relay_proxy.specs.Phases.{written_out}
 use Rattle.relay_proxy.specs.Passed.{Start}
 use Rattle.relay_proxy.specs.Relayable.{IsAccepted, IsRelayable}
 
@@ -226,14 +232,45 @@ kept_whole (reading.Body request) kept = ap (λ (b : Bool). not b) kept
 abbrev pub rebased_to : Origin → LinkState → Origin
 rebased_to o client = record o { taken = told_length client.taken; faults = client.faults }
 
--- such a session begins anew, where the client's link stands
-pub begins_again : (o : Origin) (down : DownPast) (client : LinkState) (ahead : List ℕ)
-    (session : HttpSession) → IsClient o down client ahead session
-    → may_begin_again session ≡ true
-    → BeginsBehind (rebased_to o client) down.came client ahead session
-begins_again o down client ahead session c begun =
-    let parts = as_begun_parts session begun in
-    let unqueued = unqueued_parts session.writing parts.1 in
+-- one of which nothing waits is written out
+pub out_same : (session : HttpSession) → session.writing.output ≡ outgoing.Open []
+    → written_out session ≡ session
+out_same session is =
+    ap (λ (o : Outgoing). record session { writing = record session.writing { output = o } })
+    (sym is)
+
+-- one of which some was written, or tried to be, is written out as before
+pub out_still : (old new : HttpSession)
+    → new ≡ record old { writing = record old.writing { output = new.writing.output } }
+    → written_out new ≡ written_out old
+out_still old new same = ap written_out same
+
+-- what was queued is the text that it has once it is written out
+holds_out : (response : Writing) (queue : List ℕ) (tasks : List HttpTask) (taken : List ℕ)
+    → response.output ≡ outgoing.Open queue → Holds response tasks taken
+    → Holds (record response { output = outgoing.Open [] }) tasks (taken ++ queue)
+holds_out response queue tasks taken is holds =
+    let text : HoldsOn response (outgoing.Open queue) tasks taken =
+    subst (λ (o : Outgoing). HoldsOn response o tasks taken) is holds in
+    record {
+      counted = text.counted;
+      wire = subst (λ (xs : List ℕ). IsWire response.request tasks (record {
+            text = xs;
+            counted = text.counted;
+            closes = response.closes;
+            place = response.place;
+          })) (sym (append-nil (taken ++ queue))) text.wire;
+      counts = text.counts;
+    }
+
+-- such a session begins anew once it is written out, where the client's link stands
+pub begins_out : (o : Origin) (down : DownPast) (client : LinkState) (ahead : List ℕ)
+    (session : HttpSession) → IsClient o down client ahead session → (queue : List ℕ)
+    → session.writing.output ≡ outgoing.Open queue → may_begin_again (written_out session) ≡ true
+    → BeginsBehind (rebased_to o client) down.came client ahead (written_out session)
+begins_out o down client ahead session c queue is begun =
+    let parts = as_begun_parts (written_out session) begun in
+    let unqueued = unqueued_parts (written_out session).writing parts.1 in
     record {
       gave = c.came;
       written = Since-start [] client.taken;
@@ -250,10 +287,38 @@ begins_again o down client ahead session c begun =
       kept = parts.0;
       headed = c.headed;
       whole = c.told_whole;
-      response = holds_none session.writing (queued down) down.written c.response unqueued;
+      response = holds_none (written_out session).writing (queued down) (down.written ++ queue)
+          (holds_out session.writing queue (queued down) down.written is c.response) unqueued;
       output = unqueued.output;
       tells = c.tells;
     }
+
+-- one that begins where the client's link stood does so where it stands then, having given no more
+pub begins_there : (o : Origin) (came : List ℕ) (before after : LinkState) (ahead : List ℕ)
+    (session : HttpSession) → after.given ≡ before.given
+    → TellsSince o.read_faults o.write_faults after
+    → BeginsBehind (rebased_to o before) came before ahead session
+    → BeginsBehind (rebased_to o after) came after ahead session
+begins_there o came before after ahead session same tells b = record {
+  gave = subst (λ (given : Option (List ℕ)). Since [] o.given given came) (sym same) b.gave;
+  written = Since-start [] after.taken;
+  faults = le_refl after.faults;
+  head = b.head;
+  framing = b.framing;
+  len = b.len;
+  has = b.has;
+  has_head = b.has_head;
+  own = b.own;
+  answers = b.answers;
+  body = b.body;
+  request = b.request;
+  kept = b.kept;
+  headed = b.headed;
+  whole = b.whole;
+  response = b.response;
+  output = b.output;
+  tells = tells;
+}
 
 -- so does one that begins already, where nothing was written since
 pub based_begins : (o : Origin) (came : List ℕ) (client : LinkState) (ahead : List ℕ)
@@ -319,6 +384,15 @@ begins_accepted s p o client ahead session same relayable b = record {
 }
 
 -- ---- behind a hook
+
+-- what hooks are shown, with a session that is written out
+abbrev pub shown_out : Seen → Seen
+shown_out seen = record seen { downstream = written_out seen.downstream }
+
+-- a hook that read nothing did not of one that is written out
+pub reads_out : (first now : Seen) → ReadsNothing first now
+    → ReadsNothing (shown_out first) (shown_out now)
+reads_out first now reads = record { head = reads.head; but_head = reads.but_head }
 
 -- a session that stands as begun behind a hook that read and queued nothing stood so before it
 pub as_begun_before : (first now : Seen) → ReadsNothing first now

@@ -27,14 +27,14 @@ use Rattle.relay_core.specs.Past.{Origin}
 use Rattle.relay_peer.specs.Body.{IsFrontOf}
 use Rattle.relay_peer.specs.Faults.{IsLast}
 use Rattle.relay_peer.proofs.FaultLemmas.{added_last, grew_none, grew_same, more_none}
-use Rattle.relay_attempt.specs.Order.{FailsFor, WrittenTo, order_of, text_of}
+use Rattle.relay_attempt.specs.Order.{FailsFor, WrittenTo, order_of, text_of, queued_in}
 use Rattle.relay_attempt.specs.Passed.{Passed}
 use Rattle.relay_attempt.proofs.FailLemmas.{blames_still, written_to}
 use Rattle.relay_valid.specs.Valid.{IsValid}
 use Rattle.relay_valid.proofs.ValidLemmas.{never_fails}
 use Rattle.relay_proxy.specs.Ahead.{IsOwedAhead}
-use Rattle.relay_proxy.specs.Answer.{owed_text, past_at, WaitsOf}
-use Rattle.relay_proxy.specs.Endings.{IsInOrder, IsGiven, IsGivenAhead, AttemptsFailed, EndsAhead, IsPartAhead, IsPartRefused, FailsToWrite, IsFailedAttempt, IsUnsentAttempt, IsHalfRefused, IsPart, HasFailed, Misses, owed_by, EndsWith}
+use Rattle.relay_proxy.specs.Answer.{owed_text, past_at, WaitsOf, answer_to}
+use Rattle.relay_proxy.specs.Endings.{IsInOrder, IsGiven, IsGivenAhead, AttemptsFailed, EndsAhead, IsPartAhead, IsPartRefused, FailsToWrite, IsFailedAttempt, IsUnsentAttempt, IsHalfRefused, IsPart, HasFailed, Misses, owed_by, EndsWith, FailsToGive}
 use Rattle.relay_proxy.specs.Owed.{Owes, HasAttempts, IsAnswering, IsAnsweredCalmly, TellsAgain, TellsOwed, outcome_written, outcome_failed}
 use Rattle.relay_proxy.specs.Reuse.{goes_back_with}
 use Rattle.relay_proxy.specs.Passed.{answered, World, Start, origin_of, asked, TellsClient}
@@ -82,35 +82,65 @@ WrittenOf old new = new ≡ record old {
   writing = record old.writing { output = new.writing.output };
 }
 
+-- ---- a write that failed
+
+-- the client's link tells what passed
+pub client_failed : (s : Start) (p : Passed) (w x : World) (fault : Fault)
+    → x.connect_faults ≡ w.connect_faults → FailsWrite w.client fault x.client
+    → TellsClient s p w → TellsClient s p x
+client_failed s p w x fault same fails tells =
+    client_still s p w x (omega (arith, same)) fails.given fails.taken
+    (Rose-le w.client.faults x.client.faults fails.sound_before.faults_fit fails.faults)
+    (record {
+      reads = [];
+      read = fails.read_faults ∙ more_none w.client.read_faults;
+      writes = fault ∷ [];
+      written = fails.write_faults;
+    }) tells
+
+-- its fault is the last of those that the link tells
+pub write_failed : (s : Start) (p : Passed) (w x : World) (fault : Fault)
+    → FailsWrite w.client fault x.client → TellsClient s p w → FailsToGive s x fault
+write_failed s p w x fault fails tells = record {
+  kind = fails.kind;
+  rose = λ below. omega (arith, tells.faults, fails.faults below);
+  told = added_last s.write_faults w.client.write_faults x.client.write_faults
+      tells.fault_lists.writes fault fails.write_faults tells.fault_lists.written;
+}
+
+-- and so it is among them
+pub fails_to_write : (s : Start) (x : World) (fault : Fault) → FailsToGive s x fault
+    → FailsToWrite s x.client
+fails_to_write s x fault gives = record {
+  fault = fault;
+  kind = gives.kind;
+  rose = gives.rose;
+  among = (gives.told.0, [], gives.told.1);
+}
+
 -- ---- a failed exchange
 
--- what failed an exchange still did, and as much is owed in it
-record Still {o : Origin} {p : Passed} {before link : LinkState} {start : LinkStart} {e : Error}
+-- what failed an exchange still did, and the same was queued in it
+pub record Still {o : Origin} {p : Passed} {before link : LinkState} {start : LinkStart} {e : Error}
     (why : FailsFor o p before link start e) (after : LinkState) : Type 0 where
-  again : FailsFor o p after link start e
-  same : (answered : List HttpTask)
-      → owed_text (order_of again) answered ≡ owed_text (order_of why) answered
-  written : (text_of (order_of again)).text ≡ (text_of (order_of why)).text
+  pub again : FailsFor o p after link start e
+  pub same : queued_in (order_of again) ≡ queued_in (order_of why)
 
-still : (o : Origin) (p : Passed) (before after link : LinkState) (start : LinkStart) (e : Error)
-    → WrittenTo before after → (why : FailsFor o p before link start e) → Still why after
+pub still : (o : Origin) (p : Passed) (before after link : LinkState) (start : LinkStart)
+    (e : Error) → WrittenTo before after → (why : FailsFor o p before link start e)
+    → Still why after
 still o p before after link start e to (FailsFor.by_client order blames) = record {
   again = FailsFor.by_client order (blames_still o _ before after to e blames);
-  same = λ x. refl;
-  written = refl;
+  same = refl;
 }
 still o p before after link start e to (FailsFor.by_peer order lost blames) =
-    record { again = FailsFor.by_peer order lost blames; same = λ x. refl; written = refl }
+    record { again = FailsFor.by_peer order lost blames; same = refl }
 still o p before after link start e to (FailsFor.by_refusal order refuses) =
-    record { again = FailsFor.by_refusal order refuses; same = λ x. refl; written = refl }
+    record { again = FailsFor.by_refusal order refuses; same = refl }
 still o p before after link start e to (FailsFor.by_writer order batch unasked read refused) =
-    record {
-      again = FailsFor.by_writer order batch unasked read refused;
-      same = λ x. refl;
-      written = refl;
-    }
+    record { again = FailsFor.by_writer order batch unasked read refused; same = refl }
 still o p before after link start e to (FailsFor.by_cut at order unasked read refused) =
-    record { again = FailsFor.by_cut at order unasked read refused; same = λ x. refl; written = refl }
+    record { again = FailsFor.by_cut at order unasked read refused; same = refl }
 
 -- an exchange that failed still did, and as much is owed
 record FailedOn {s : Start} {p : Passed} {before link : LinkState} {start : LinkStart} {e : Error}
@@ -136,11 +166,9 @@ failed_on s p written before after link start e failed to =
         treated = failed.treated;
         told = failed.told;
         why = on.again;
-        over = over_on s before after failed.treated.e e failed.before
-            (text_of (order_of failed.why)).text (text_of (order_of on.again)).text to on.written
-            failed.over;
+        over = over_on s before after failed.treated.e e to failed.over;
       };
-      same = on.same (answered s);
+      same = ap (λ (tasks : List HttpTask). answer_to failed.head (tasks ++ answered s)) on.same;
     }
 
 -- an attempt that failed still did, and as much is owed
@@ -648,7 +676,7 @@ module _ {L C : Type 0} (state : L → LinkState) (start_at : L → LinkStart) w
       by (r ∷ l) held = held
 
 -- the past, with what was written of it
-past_same : (s : Start) (p : Passed) (w : World) → TellsClient s p w
+pub past_same : (s : Start) (p : Passed) (w : World) → TellsClient s p w
     → TellsClient s (past_at p p.written) w
 past_same s p w tells = record {
   came = tells.came;
@@ -831,32 +859,16 @@ module _ {L C : Type 0} (state : L → LinkState) (start_at : L → LinkStart)
         fails = (written (put.Failed fault) writes).writes.writes
 
         tells : TellsClient s p x
-        tells = client_still s p w x (omega (arith, same)) fails.given fails.taken
-            (Rose-le w.client.faults x.client.faults fails.sound_before.faults_fit fails.faults)
-            (record {
-              reads = [];
-              read = fails.read_faults ∙ more_none w.client.read_faults;
-              writes = fault ∷ [];
-              written = fails.write_faults;
-            }) run.tells
-
-        rose : Rose s.faults x.client.faults
-        rose = λ below. omega (arith, run.tells.faults, fails.faults below)
+        tells = client_failed s p w x fault same fails run.tells
 
         front : IsFrontOf p.written holds.text
         front = waits_front _ _ _ holds.waits
 
-        last : IsLast s.write_faults x.client.write_faults fault
-        last = added_last s.write_faults w.client.write_faults x.client.write_faults
-            run.tells.fault_lists.writes fault fails.write_faults run.tells.fault_lists.written
+        gives : FailsToGive s x fault
+        gives = write_failed s p w x fault fails run.tells
 
         failed : FailsToWrite s x.client
-        failed = record {
-          fault = fault;
-          kind = fails.kind;
-          rose = rose;
-          among = (last.0, [], last.1);
-        }
+        failed = fails_to_write s x fault gives
 
         by : (l : List (Returned L)) (o : Owed)
             → Owes state start_at s (past_at p p.written) x l o holds.text
@@ -866,10 +878,10 @@ module _ {L C : Type 0} (state : L → LinkState) (start_at : L → LinkStart)
           inr (inr (record {
             fault = fault;
             is = refl;
-            rose = rose;
+            rose = gives.rose;
             place = inr (record {
               kind = fails.kind;
-              told = last;
+              told = gives.told;
               unfinished = record {
                 answer = holds.text;
                 error = error;
@@ -888,7 +900,7 @@ module _ {L C : Type 0} (state : L → LinkState) (start_at : L → LinkStart)
             (fault_error Downstream fault) holds.text attempts owes
             (inr (
               fault,
-              record { kind = fails.kind; rose = rose; told = last },
+              gives,
               refl,
               front,
             )) made

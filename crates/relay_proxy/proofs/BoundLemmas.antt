@@ -439,18 +439,27 @@ module _ {L C : Type 0} (state : L → LinkState) (start_at : L → LinkStart) w
       counts leaves had = absurd counts
 
   -- whatever links were handed back before
-  pub treat_turn_bounds : (s : Start) (these those : List LogEntry) (p : Passed) (w : World)
-      (own : List (Returned L)) (context : C) (session : Box HttpSession) (link : L) (lease : Lease)
-      (keep : Bool) (e : Error) (next : Phase L C) (work : Work) (tasks ends : ℕ)
-      → CountsTreat (tries_in lease) next work → LeavesLink link lease next
-      → PhaseCounts state start_at tasks ends (called_to s these) w.client w.ahead own
+  pub treat_turn_bounds : (s : Start) (these those : List LogEntry) (client client' : LinkState)
+      (ahead left : List ℕ) (own : List (Returned L)) (context : C) (session : Box HttpSession)
+      (link : L) (lease : Lease) (keep : Bool) (e : Error) (next : Phase L C) (work : Work)
+      (tasks ends : ℕ) → client'.given ≡ client.given → CountsTreat (tries_in lease) next work
+      → LeavesLink link lease next
+      → PhaseCounts state start_at tasks ends (called_to s these) client ahead own
       (Broken context session link lease keep e)
       → TurnedCounts state start_at (work.moved + tasks) (work.ended + ends) (called_to s those)
-      w.client w.ahead own next
-  treat_turn_bounds s these those p w own context session link lease keep e next work tasks ends
-      counts leaves had =
-      treat_bounds s these those w.client w.ahead own link lease next work tasks ends counts leaves
-      had
+      client' left own next
+  treat_turn_bounds s these those client client' ahead left own context session link lease keep e
+      next work tasks ends same counts leaves had =
+      treat_bounds s these those client' left own link lease next work tasks ends counts leaves
+      (record {
+        came = had.came;
+        got = had.got;
+        client_gave = subst (λ (given : Option (List ℕ)). Since [] s.given given had.came)
+            (sym same) had.client_gave;
+        own_gave = had.own_gave;
+        tasks_within = had.tasks_within;
+        ends_within = had.ends_within;
+      })
 
   -- a turn that writes an answer
   pub answer_bounds : (s : Start) (client client' : LinkState) (ahead : List ℕ)

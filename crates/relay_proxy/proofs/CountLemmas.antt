@@ -2,8 +2,9 @@
 --
 --   ups_twice                    a count that went up, and went up again
 --   client_counts, both_counts   the uses of one turn, as their counts went up
+--   client_both                  a turn that asked the client's link alone, or none, of two
 --   min_twice                    what was counted of both, up to its last value
-use Rattle.std.proofs.Common.{◌≡◌, ℕ, zero, suc, ◌+◌, min, inl, inr, sym, ap, ◌∙◌, arith}
+use Rattle.std.proofs.Common.{◌≡◌, ℕ, zero, suc, ◌+◌, min, inl, inr, refl, sym, ap, ◌∙◌, arith}
 use Rattle.relay_links.specs.Count.{last_count, up}
 use Rattle.relay_links.specs.Link.{LinkState}
 use Rattle.relay_proxy.specs.Uses.{BothUse, ClientUses, ups}
@@ -23,6 +24,14 @@ client_counts n client client' (inl (is, used)) =
     used ∙ ap (λ (k : ℕ). ups k client.used) (sym is)
 client_counts n client client' (inr (is, same)) =
     ap (λ (l : LinkState). l.used) same ∙ ap (λ (k : ℕ). ups k client.used) (sym is)
+
+-- of two links, one that asked the client's alone asked, or none
+pub client_both : (n : ℕ) (client client' link : LinkState) → ClientUses n client client'
+    → BothUse n client client' link link
+client_both n client client' link (inl (one, used)) =
+    inl (one, inl (record { used = used; other_same = refl }))
+client_both n client client' link (inr (none, still)) =
+    inr (none, record { client_same = still; upstream_same = refl })
 
 -- both counts went up by the uses of a turn
 pub record BothCount (n used : ℕ) (client client' link' : LinkState) (start : ℕ) : Type 0 where

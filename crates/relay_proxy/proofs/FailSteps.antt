@@ -9,7 +9,7 @@
 --   repeats_called             another attempt follows
 --   treated_lost               the phase where memory was wanted
 use Rattle.std.specs.Global.{Box}
-use Rattle.std.proofs.Common.{◌≡◌, ℕ, ◌+◌, ◌<◌, Bool, true, false, not, List, [], ◌∷◌, ◌++◌, length, Some, refl, sym, ap, subst, ◌∙◌, inl, inr, arith, append-nil, true≢false}
+use Rattle.std.proofs.Common.{◌≡◌, ◌≢◌, ℕ, ◌+◌, ◌<◌, Bool, true, false, not, List, [], ◌∷◌, ◌++◌, length, Some, refl, sym, ap, subst, ◌∙◌, inl, inr, arith, append-nil, length-append, true≢false}
 use Rattle.std.specs.Prelude.{◌==◌, ◌⊎◌}
 use Rattle.relay_tasks.specs.Head.{RequestHead}
 use Rattle.relay_tasks.specs.declared.Error.{Error}
@@ -33,7 +33,7 @@ use Rattle.relay_session.specs.declared.writing.Writing.{Writing}
 use Rattle.relay_hooks.specs.Standing.{Standing}
 use Rattle.relay_phases.specs.Order.{Station}
 use Rattle.relay_phases.specs.Order.{Station as station}
-use Rattle.relay_phases.specs.Turns.{QueuesNothing, Turns, wrote_in}
+use Rattle.relay_phases.specs.Turns.{QueuesNothing, ReadsNothing, Turns, wrote_in}
 use Rattle.relay_opening.specs.Told.{head_behind}
 use Rattle.relay_opening.specs.declared.place.End.TheVariants as end
 use Rattle.relay_opening.specs.declared.place.Place.TheVariants as stage
@@ -42,7 +42,7 @@ use Rattle.relay_closing.specs.Queued.{QueuesOnce}
 use Rattle.relay_core.specs.Past.{Origin}
 use Rattle.relay_sides.specs.Client.{BeginsBehind}
 use Rattle.relay_peer.specs.Body.{IsFrontOf}
-use Rattle.relay_attempt.specs.Order.{order_of, queued_in}
+use Rattle.relay_attempt.specs.Order.{order_of, queued_in, text_of}
 use Rattle.relay_attempt.specs.Passed.{Passed}
 use Rattle.relay_proxy.specs.Answer.{answer_to, owed_text, WaitsOf}
 use Rattle.relay_proxy.specs.Calls.{CallsNext, GoesOn, IsTreatedBefore, IsUnended, TakesNext, leads_at, log_of, seen_with}
@@ -50,7 +50,7 @@ use Rattle.relay_proxy.specs.Endings.{IsInOrder, IsGiven, FailsToWrite, IsPartRe
 use Rattle.relay_proxy.specs.Leaving.{Answers}
 use Rattle.relay_proxy.specs.Legs.{FailsAgain, RepeatsOn}
 use Rattle.relay_proxy.specs.Passed.{World, Start, based, called_to, closed_to, opened_to, origin_of, IsUnsent, IsUntouched, TellsClient}
-use Rattle.relay_proxy.specs.Phases.{IsBroken, IsCalm, IsGoing, IsLeased, LeavesAhead, LeavesSession, PhaseHolds, RunSoFar}
+use Rattle.relay_proxy.specs.Phases.{IsBroken, IsCalm, IsGoing, IsLeased, LeavesAhead, LeavesSession, PhaseHolds, RunSoFar, waits_to_begin, written_out}
 use Rattle.relay_proxy.specs.Relayable.{IsAccepted}
 use Rattle.relay_proxy.specs.Sent.{IsAnswered, IsTreated}
 use Rattle.relay_proxy.specs.Tries.{MayTry, made_before, tries_in}
@@ -63,9 +63,9 @@ use Rattle.relay_proxy.specs.declared.machine.Lease.{Lease}
 use Rattle.relay_proxy.specs.declared.machine.Phase.{Phase}
 use Rattle.relay_proxy.specs.declared.machine.Phase.TheVariants.{Again, Broken, Fail, Close}
 use Rattle.relay_proxy.specs.declared.outcome.Outcome.TheVariants as outcome
-use Rattle.relay_proxy.proofs.AgainLemmas.{IsUnqueued, as_begun_before, as_begun_parts, based_begins, begins_accepted, begins_any, unqueued_parts}
+use Rattle.relay_proxy.proofs.AgainLemmas.{IsUnqueued, as_begun_before, as_begun_parts, based_begins, begins_accepted, begins_any, out_same, reads_out, shown_out, unqueued_parts}
 use Rattle.relay_proxy.proofs.AnswerSteps.{ends_missed}
-use Rattle.relay_proxy.proofs.CutLemmas.{cut_next}
+use Rattle.relay_proxy.proofs.CutLemmas.{at_written, cut_at}
 use Rattle.relay_proxy.proofs.NamedLemmas.{TellsSame, tells_same}
 use Rattle.relay_proxy.proofs.OpenHead.{exchange_open}
 use Rattle.relay_proxy.proofs.OpenSteps.{begins_on, called_accepted, called_tells, closed_accepted, closed_tells, left_on, once_goes_on, once_open, once_request, stands_first, stays_connecting, wrote_on}
@@ -125,19 +125,74 @@ queued_by s p client ahead link start session new raised wrote l queues =
     (once_goes_on session.writing new wrote queues (queued_in (order_of l.why)) p.written l.holds)
     (was_broken s client session.writing new wrote queues l.broken session.writing.output refl)
 
+-- what was written is the front of the text of what was queued
+front_of : (request : Request) (response : Writing) (tasks : List HttpTask) (taken : List ℕ)
+    (output : Outgoing) → response.request ≡ request → HoldsOn response output tasks taken
+    → IsFrontOf taken (wire request place.NoHead tasks).text
+front_of request response tasks taken (outgoing.Open queue) own held = record {
+  rest = queue;
+  joined = sym (ap (λ (k : Sent). k.text) held.wire.is)
+      ∙ ap (λ (r : Request). (wire r place.NoHead tasks).text) own;
+}
+front_of request response tasks taken (outgoing.Broken fault) own held = record {
+  rest = held.0;
+  joined = sym (ap (λ (k : Sent). k.text) held.1.wire.is)
+      ∙ ap (λ (r : Request). (wire r place.NoHead tasks).text) own;
+}
+
+-- so it is of a session that a failed exchange left
+pub left_front : (s : Start) (p : Passed) (client : LinkState) (ahead : List ℕ) (link : LinkState)
+    (start : LinkStart) (session : HttpSession) (e : Error)
+    (l : LeavesSession s p client ahead link start session e)
+    → IsFrontOf p.written (text_of (order_of l.why)).text
+left_front s p client ahead link start session e l =
+    front_of (request_of l.head) session.writing (queued_in (order_of l.why)) p.written
+    session.writing.output l.answers l.holds
+
+-- and not all of it, where something waits
+pub left_waits : (s : Start) (p : Passed) (client : LinkState) (ahead : List ℕ) (link : LinkState)
+    (start : LinkStart) (session : HttpSession) (e : Error)
+    (l : LeavesSession s p client ahead link start session e)
+    → 0 < length (pending session.writing.output)
+    → p.written ≢ (text_of (order_of l.why)).text
+left_waits s p client ahead link start session e l some whole =
+    by session.writing.output l.holds some
+  where
+    text : List ℕ
+    text = (wire (request_of l.head) place.NoHead (queued_in (order_of l.why))).text
+
+    by : (output : Outgoing)
+        → HoldsOn session.writing output (queued_in (order_of l.why)) p.written
+        → 0 < length (pending output) → ⊥
+    by (outgoing.Open queue) held some =
+        let joined : text ≡ p.written ++ queue =
+        ap (λ (r : Request). (wire r place.NoHead (queued_in (order_of l.why))).text)
+        (sym l.answers)
+        ∙ ap (λ (k : Sent). k.text) held.wire.is in
+        absurd (omega (
+          arith,
+          some,
+          length-append p.written queue,
+          ap (λ (xs : List ℕ). length xs) joined,
+          ap (λ (xs : List ℕ). length xs) whole,
+        ))
+    by (outgoing.Broken fault) held some = absurd (omega (arith, some))
+
 -- what passed is a part of one exchange
 pub leaves_part : (s : Start) (p : Passed) (client : LinkState) (ahead : List ℕ) (link : LinkState)
     (start : LinkStart) (session : HttpSession) (e : Error)
     → LeavesSession s p client ahead link start session e → IsPartRelayed s p link start
 leaves_part s p client ahead link start session e l =
+    let o = origin_of s l.head l.sent start.reused in
+    let front = left_front s p client ahead link start session e l in
     record {
       head = l.head;
       sent = l.sent;
       relayable = l.relayable;
       sends = l.sends;
       cut = _;
-      order = order_of l.why;
-      next = cut_next _ p client link start e l.why;
+      order = at_written _ o p l.before link.ended (order_of l.why) front;
+      next = cut_at o p l.before client link start e l.why front;
     }
 
 -- what passed in an attempt that failed is that, or nothing did
@@ -186,14 +241,14 @@ some_waits waits (x ∷ xs) is some = omega arith
 -- ---- the phase that follows
 
 -- what passed is in order
-part_order : (s : Start) (p : Passed) (link : LinkState) (start : LinkStart)
+pub part_order : (s : Start) (p : Passed) (link : LinkState) (start : LinkStart)
     → IsPartRelayed s p link start → IsInOrder s p
 part_order s p link start part =
     IsInOrder.is_exchange part.cut part.head part.sent _ _ part.relayable part.sends part.order
     part.next
 
 -- and the client's head is open no more
-part_closed : (s : Start) (p : Passed) (w : World) (link : LinkState) (start : LinkStart)
+pub part_closed : (s : Start) (p : Passed) (w : World) (link : LinkState) (start : LinkStart)
     → IsPartRelayed s p link start → IsUntouched s p w
 part_closed s p w link start part = λ open_head.
     absurd (exchange_open part.cut s p part.head part.sent _ _ part.order open_head)
@@ -270,18 +325,19 @@ session_on : (s : Start) (these those : List LogEntry) (e : LogEntry) → those 
     → ((head : RequestHead) → head_of session.reading ≡ Some (head_behind head these)
     → head_of left.reading ≡ Some (head_behind head those))
     → (wrote_in these ≡ [] → wrote_in those ≡ [])
-    → (may_begin_again left ≡ true → may_begin_again session ≡ true)
-    → ((o : Origin) → BeginsBehind o p.came client ahead session
-    → BeginsBehind o p.came client ahead left)
+    → (may_begin_again (written_out left) ≡ true → may_begin_again (written_out session) ≡ true)
+    → ((o : Origin) → BeginsBehind o p.came client ahead (written_out session)
+    → BeginsBehind o p.came client ahead (written_out left))
     → LeavesSession (opened_to s these) p client ahead link start session raised
     → LeavesSession (opened_to s those) p client ahead link start left raised
 session_on s these those e more is p client ahead link start session left raised same left_so quiet
-    before begins l =
+    as_before begins l =
     record {
       head = l.head;
       sent = l.sent;
       relayable = l.relayable;
       sends = sends_on these those e more is l.sends;
+      before = l.before;
       why = l.why;
       answers = ap (λ (w : Writing). w.request) same ∙ l.answers;
       holds = subst (λ (w : Writing). Holds w (queued_in (order_of l.why)) p.written) (sym same)
@@ -290,8 +346,9 @@ session_on s these those e more is p client ahead link start session left raised
           (l.broken fault (sym (ap (λ (w : Writing). w.output) same) ∙ broken));
       is_left = left_so l.head l.is_left;
       quiet = quiet l.quiet;
-      again = λ begun.
-          begins (origin_of (based s client) l.head l.sent start.reused) (l.again (before begun));
+      again = λ queue open_to begun.
+          begins (origin_of (based s client) l.head l.sent start.reused)
+          (l.again queue (sym (ap (λ (w : Writing). w.output) same) ∙ open_to) (as_before begun));
     }
 
 -- ---- it is treated
@@ -319,6 +376,16 @@ module _ {L C M K : Type 0} (state : L → LinkState) (start_at : L → LinkStar
     leased_still = leased_on s (log_of c) (log_of d) p (state link) (start_at link) lease peers
         run.holds.0
 
+    -- of the session, once it is written out, nothing was read or queued either
+    reads_nothing : ReadsNothing (shown_out (seen_with c session.value))
+        (shown_out (seen_with d left.value))
+    reads_nothing = reads_out (seen_with c session.value) (seen_with d left.value)
+        t.call.turn.calls.reads
+
+    same_out : (written_out left.value).writing ≡ (written_out session.value).writing
+    same_out = ap (λ (response : Writing). record response { output = outgoing.Open [] })
+        t.call.turn.queued.same
+
     -- the attempt failed as before
     broken_still : IsBroken (opened_to s (log_of c)) p w (state link) (start_at link)
         session.value lease keep raised
@@ -333,10 +400,10 @@ module _ {L C M K : Type 0} (state : L → LinkState) (start_at : L → LinkStar
         (λ quiet. wrote_on allows c d session.value left.value mark behind hook.ErrorWhileProxy from
         (treated_at (may_follow treated (seen_with c session.value))) QueuesNothing t.call.turn
         quiet ∙ t.call.turn.queued.wrote_none)
-        (as_begun_before (seen_with c session.value) (seen_with d left.value)
-        t.call.turn.calls.reads t.call.turn.queued.same)
-        (λ o begins. begins_on o p.came w.client w.ahead (seen_with c session.value)
-        (seen_with d left.value) t.call.turn.calls.reads t.call.turn.queued.same begins) l) kept
+        (as_begun_before (shown_out (seen_with c session.value)) (shown_out (seen_with d left.value))
+        reads_nothing same_out)
+        (λ o begins. begins_on o p.came w.client w.ahead (shown_out (seen_with c session.value))
+        (shown_out (seen_with d left.value)) reads_nothing same_out begins) l) kept
     broken_still (IsBroken.ahead_of_it l) = IsBroken.ahead_of_it (record {
       connecting = stays_connecting allows c d session.value left.value mark behind
           hook.ErrorWhileProxy from (treated_at (may_follow treated (seen_with c session.value)))
@@ -404,6 +471,7 @@ closed_session s log closed p client ahead link start session raised l = record 
   sent = l.sent;
   relayable = l.relayable;
   sends = l.sends;
+  before = l.before;
   why = l.why;
   answers = l.answers;
   holds = l.holds;
@@ -425,7 +493,8 @@ module _ {L C : Type 0} (state : L → LinkState) (start_at : L → LinkStart) (
     (session : Box HttpSession) (left : Writing) (link : L) (lease : Lease) (keep : Bool)
     (raised treated : Error) (v : IsTreatedBefore log raised treated session.value)
     (stops : MayTry s.most (1 + length (tries_in lease)) treated
-    → may_begin_again session.value ≡ false) (told : IsAnswered closed treated)
+    → (may_begin_again session.value ≡ false) × (waits_to_begin session.value ≡ false))
+    (told : IsAnswered closed treated)
     (queues : QueuesOnce session.value.writing left (wrote_in closed))
     (run : RunSoFar {C = C} state start_at (opened_to s log) p w []
     (Broken context session link lease keep raised))
@@ -449,14 +518,13 @@ module _ {L C : Type 0} (state : L → LinkState) (start_at : L → LinkStart) (
             sent = l.sent;
             relayable = l.relayable;
             sends = l.sends;
-            before = p.written;
+            before = l.before;
             raised = raised;
             treated = v.was;
             told = told;
             why = l.why;
             over = over_as (closed_to s log closed) w.client raised treated log session.value v
-                (request_of l.head) (queued_in (order_of l.why)) p.written l.answers l.holds l.broken
-                (rw l.is_left refl) (length (tries_in lease)) made stops;
+                l.broken (rw l.is_left refl) (length (tries_in lease)) made stops;
           }) refl kept;
           queued = queued_by (closed_to s log closed) p w.client w.ahead (state link)
               (start_at link) session.value left raised (wrote_in closed) l queues;
@@ -480,7 +548,7 @@ module _ {L C : Type 0} (state : L → LinkState) (start_at : L → LinkStart) (
             over = λ may. true≢false (
                 sym (begins_anew session.value begins.kept
                 (stands_first session.value.writing begins.response begins.output) begins.output)
-                ∙ stops (subst (λ (n : ℕ). MayTry s.most (1 + n) treated) (sym made) may)
+                ∙ (stops (subst (λ (n : ℕ). MayTry s.most (1 + n) treated) (sym made) may)).0
                 );
             fresh = subst (λ (b : Bool). IsHandedOut (state link) (start_at link) b)
                 (sym l.fresh.marked) l.fresh;
@@ -658,8 +726,8 @@ module _ {L C M K : Type 0} (state : L → LinkState) (start_at : L → LinkStar
         let given = given_ahead session.value.writing (request_of l.head)
         (queued_in (order_of l.why)) p.written l.answers l.holds
         (unqueued_parts session.value.writing (as_begun_parts session.value begun).1) in
-        FailsAgain.in_exchange l.head l.sent raised l.relayable l.sends is_treated l.why given.at
-        given.text kept
+        FailsAgain.in_exchange l.head l.sent raised l.relayable l.sends is_treated l.before l.why
+        given.at given.text kept
     fails_again (IsBroken.ahead_of_it l) =
         FailsAgain.ahead_of_it l.connecting.head raised l.connecting.accepted l.why is_treated
         (subst (λ (b : Bool). IsHandedOut (state link) (start_at link) b) (sym l.fresh.marked)
@@ -675,11 +743,25 @@ module _ {L C M K : Type 0} (state : L → LinkState) (start_at : L → LinkStar
           → BeginsBehind (origin_of (based s w.client) head sent reused) p.came w.client w.ahead
           left.value
 
+    -- nothing waits, so it begins as it would once written out
+    begins_now : (l : LeavesSession (opened_to s (log_of c)) p w.client w.ahead (state link)
+        (start_at link) session.value raised)
+        → BeginsBehind (origin_of (based s w.client) l.head l.sent (start_at link).reused) p.came
+        w.client w.ahead session.value
+    begins_now l =
+        let empty : session.value.writing.output ≡ outgoing.Open [] =
+        (unqueued_parts session.value.writing (as_begun_parts session.value begun).1).output in
+        let out = out_same session.value empty in
+        subst (λ (h : HttpSession). BeginsBehind
+        (origin_of (based s w.client) l.head l.sent (start_at link).reused) p.came w.client w.ahead
+        h) out
+        (l.again [] empty (ap may_begin_again out ∙ begun))
+
     begins_next : IsBroken (opened_to s (log_of c)) p w (state link) (start_at link) session.value
         lease keep raised → BeginsNext
     begins_next (IsBroken.in_exchange l kept) =
         let o = origin_of (based s w.client) l.head l.sent (start_at link).reused in
-        let again = l.again begun in
+        let again = begins_now l in
         record {
           head = l.head;
           accepted = begins_accepted (opened_to s (log_of d)) p o w.client w.ahead session.value

@@ -21,7 +21,7 @@ use Rattle.relay_tasks.specs.declared.hook.Hook.{Hook}
 use Rattle.relay_tasks.specs.declared.hook.Hook.TheVariants as hook
 use Rattle.relay_tasks.specs.declared.log.Item.{Item}
 use Rattle.relay_tasks.specs.declared.log.LogEntry.{LogEntry}
-use Rattle.relay_session.specs.Reading.{head_of}
+use Rattle.relay_session.specs.Reading.{head_of, is_truncated}
 use Rattle.relay_session.specs.Response.{has_head}
 use Rattle.relay_session.specs.declared.reading.Reading.{Reading}
 use Rattle.relay_session.specs.declared.session.HttpSession.{HttpSession}
@@ -44,12 +44,14 @@ use Rattle.relay_closing.specs.declared.place.Stage.TheVariants as stage
 use Rattle.relay_proxy.specs.Calls.{CallsSoFar, BreaksAt, CameIn, CountsCalls, EndsBy, HasAnswered, HasClosed, HasCome, HasFinished, IsBreaking, IsLackingCalls, IsLogged, IsOpening, IsOwing, IsRelayingCalls, IsUnended, IsUnheard, KeepsCalls, KeepsValue, Owing, OwesIn, ShowsSame, StandsAt, StandsBy, closed_with, ended_with, log_of, seen_with, station_at, treated_at}
 use Rattle.relay_proxy.specs.ClosingHooks.{failed_with, stays_alive}
 use Rattle.relay_proxy.specs.Endings.{error_of}
+use Rattle.relay_proxy.specs.Leaving.{WritesAhead}
 use Rattle.relay_proxy.specs.Owed.{outcome_failed, outcome_written}
 use Rattle.relay_proxy.specs.Passed.{begins_end}
 use Rattle.relay_proxy.specs.declared.calls.At.{At}
 use Rattle.relay_proxy.specs.declared.calls.At.TheVariants as at
 use Rattle.relay_proxy.specs.declared.calls.Calls.{Calls}
 use Rattle.relay_proxy.specs.declared.machine.Attempt.{Attempt}
+use Rattle.relay_proxy.specs.declared.machine.Lease.{Lease}
 use Rattle.relay_proxy.specs.declared.machine.Phase.{Phase}
 use Rattle.relay_proxy.specs.declared.machine.Phase.TheVariants.{ReadHead, Connect, Unlinked, Prepare, Relay, Broken, Again, Fail, Close, Answer, Ended}
 use Rattle.relay_proxy.specs.declared.outcome.Outcome.{Outcome}
@@ -639,6 +641,31 @@ module _ {C M K : Type 0} (allows : Standing → LogEntry → Type 0) (mark_of :
         error_is = refl;
       }))
 
+  -- the calls so far of an attempt that failed, where hooks are shown the same of its session
+  breaking_shown : (calls : Calls M K C) (context : C) (client left : HttpSession) (e : Error)
+      → ShowsSame left client → IsBreaking allows mark_of calls context client e
+      → IsBreaking allows mark_of calls context left e
+  breaking_shown calls context client left e same b = record {
+    from = b.from;
+    walks = walk_further allows (log_of calls) b.from
+        (standing None false (moment (seen_with calls client) (mark_of context)))
+        (standing None false (moment (seen_with calls left) (mark_of context))) b.walks
+        (views_shown calls (mark_of context) client left same);
+    at = b.at;
+    order = b.order;
+    breaks = b.breaks;
+    again = λ treated is may none kept. b.again treated is may
+        (sym (ap has_head same.1) ∙ none) (sym (ap is_truncated same.0) ∙ kept);
+    viewed = λ treated is.
+        let v = b.viewed treated is in
+        record {
+          was = v.was;
+          final_head = v.final_head ∙ sym (ap has_head same.1);
+          truncated = v.truncated ∙ sym (ap is_truncated same.0);
+        };
+    unended = b.unended;
+  }
+
 module _ {L C M K : Type 0} (allows : Standing → LogEntry → Type 0) (mark_of : C → ℕ) where
   -- wherever the request stands its log is in order
   pub calls_logged : (calls : Calls M K C) (phase : Phase L C) → CallsSoFar allows mark_of calls phase
@@ -668,6 +695,20 @@ module _ {L C M K : Type 0} (allows : Standing → LogEntry → Type 0) (mark_of
       owing_logged allows mark_of calls session.value owed so_far
   calls_logged calls (Ended outcome attempts) so_far =
       come_logged allows mark_of calls outcome so_far
+
+  -- so they stand where what waits for its client was offered to it
+  pub ahead_calls : (calls : Calls M K C) (context : C) (session : Box HttpSession) (link : L)
+      (lease : Lease) (keep : Bool) (e : Error) (next : Phase L C)
+      → WritesAhead context session.value link lease keep e next
+      → CallsSoFar allows mark_of calls (Broken context session link lease keep e)
+      → CallsSoFar allows mark_of calls next
+  ahead_calls calls context session link lease keep e next (WritesAhead.stays left shows is)
+      so_far =
+      subst (λ (k : Phase L C). CallsSoFar allows mark_of calls k) (sym is)
+      (breaking_shown allows mark_of calls context session.value left.value e shows so_far)
+  ahead_calls calls context session link lease keep e next (WritesAhead.lost is) so_far =
+      subst (λ (k : Phase L C). CallsSoFar allows mark_of calls k) (sym is)
+      (calls_logged calls (Broken context session link lease keep e) so_far)
 
   -- a turn of an exchange leaves the calls so far
   kept_calls : (calls new : Calls M K C) (a : Attempt L C) (next : Phase L C)

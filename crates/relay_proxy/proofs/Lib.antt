@@ -6,6 +6,7 @@ pub mod CutLemmas
 pub mod ReuseLemmas
 pub mod AnswerSteps
 pub mod FailSteps
+pub mod AheadSteps
 pub mod HeadSteps
 pub mod ClosingSteps
 pub mod ConnectSteps

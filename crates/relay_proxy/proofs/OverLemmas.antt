@@ -3,6 +3,7 @@
 --   made_as              how many attempts came before the last
 --   over_as              why none follows, where none may or the session does not let one begin
 --   begins_anew          a session of which nothing was queued lets one begin
+--   writes_still         a write of the client's link that failed still did behind one more
 --   over_on              none follows either once more was written
 use Rattle.std.proofs.Common.{◌≡◌, ℕ, ◌+◌, Bool, true, false, not, ◌&&◌, List, [], ◌∷◌, ◌++◌, length, map, refl, sym, ap, subst, ◌∙◌, inl, inr, true≢false, arith, append-nil, length-append}
 use Rattle.std.proofs.lemmas.Bool.{cases_Bool}
@@ -14,7 +15,7 @@ use Rattle.relay_tasks.specs.declared.log.LogEntry.{LogEntry}
 use Rattle.relay_tasks.specs.declared.task.HttpTask.{HttpTask}
 use Rattle.relay_links.specs.Link.{LinkState}
 use Rattle.relay_session.specs.Reading.{head_of, is_kept, is_truncated}
-use Rattle.relay_session.specs.Response.{Holds, HoldsOn, has_head, is_unqueued, is_written_out}
+use Rattle.relay_session.specs.Response.{has_head, is_unqueued, is_written_out, pending}
 use Rattle.relay_session.specs.Session.{may_begin_again}
 use Rattle.relay_session.specs.TaskWire.{Sent, wire}
 use Rattle.relay_session.specs.declared.reading.Reading.{Reading}
@@ -33,8 +34,10 @@ use Rattle.relay_attempt.specs.Order.{WrittenTo}
 use Rattle.relay_proxy.specs.Calls.{IsTreatedBefore}
 use Rattle.relay_proxy.specs.Endings.{FailsToWrite, IsOver}
 use Rattle.relay_proxy.specs.Passed.{Start}
+use Rattle.relay_proxy.specs.Phases.{waits_to_begin}
 use Rattle.relay_proxy.specs.Tries.{AreTries, MayTry, made_before, record_of, refusals_since}
 use Rattle.relay_proxy.specs.declared.record.AttemptRecord.{AttemptRecord}
+use Rattle.relay_proxy.proofs.AgainLemmas.{kept_whole}
 use Rattle.relay_proxy.proofs.TryLemmas.{may_or_not}
 
 -- ---- how many there were
@@ -75,71 +78,69 @@ told_head call has =
     none true = refl
     none false = refl
 
--- a queue that is not empty was not written
-unwritten : (output : Outgoing) (queue : List ℕ) → is_written_out (outgoing.Open queue) ≡ false
-    → ¬ (queue ≡ [])
-unwritten output [] waits = absurd (true≢false waits)
-unwritten output (b ∷ queue) waits = λ none. cc
+-- an output that is open and not written out waits
+unwritten : (queue : List ℕ) → is_written_out (outgoing.Open queue) ≡ false
+    → not (length queue == 0) ≡ true
+unwritten [] waits = absurd (true≢false waits)
+unwritten (b ∷ queue) waits = grind (arith)
+
+-- so what waits keeps another attempt from beginning
+waits_by : (session : HttpSession) (queue : List ℕ) → is_truncated session.reading ≡ false
+    → has_head session.writing.place ≡ false → session.writing.output ≡ outgoing.Open queue
+    → is_written_out session.writing.output ≡ false → waits_to_begin session ≡ true
+waits_by session queue kept none is waits =
+    ap (λ (b : Bool). not b && (not (has_head session.writing.place)
+    && not (length (pending session.writing.output) == 0))) kept
+    ∙ ap (λ (b : Bool). not b && not (length (pending session.writing.output) == 0)) none
+    ∙ ap (λ (o : Outgoing). not (length (pending o) == 0)) is
+    ∙ unwritten queue (sym (ap is_written_out is) ∙ waits)
 
 module _ (s : Start) (client : LinkState) (raised treated : Error) (called : List LogEntry)
     (session : HttpSession) (v : IsTreatedBefore called raised treated session)
-    (request : Request) (tasks : List HttpTask) (taken : List ℕ)
-    (answers : session.writing.request ≡ request)
-    (holds : Holds session.writing tasks taken)
     (fails : (fault : Fault) → session.writing.output ≡ outgoing.Broken fault
     → FailsToWrite s client) (some : IsSome (head_of session.reading))
   where
-    abbrev All : Type 0
-    All = taken ≡ (wire request place.NoHead tasks).text
-
-    -- something waits, or a write failed
+    -- a write failed
     by_output : (output : Outgoing) → session.writing.output ≡ output
-        → is_written_out output ≡ false → IsOver s client v.was.e All treated
-    by_output (outgoing.Open queue) is waits =
-        let held : HoldsOn session.writing (outgoing.Open queue) tasks taken =
-        subst (λ (o : Outgoing). HoldsOn session.writing o tasks taken) is holds in
-        let text : (wire request place.NoHead tasks).text ≡ taken ++ queue =
-        ap (λ (r : Request). (wire r place.NoHead tasks).text) (sym answers)
-        ∙ ap (λ (k : Sent). k.text) held.wire.is in
-        IsOver.waits (λ all. unwritten (outgoing.Open queue) queue waits
-        (nothing_more taken queue (all ∙ text)))
-      where
-        nothing_more : (front rest : List ℕ) → front ≡ front ++ rest → rest ≡ []
-        nothing_more front [] same = refl
-        nothing_more front (b ∷ rest) same =
-            absurd (omega (
-              arith,
-              ap (λ (xs : List ℕ). length xs) same,
-              length-append front (b ∷ rest),
-            ))
-    by_output (outgoing.Broken fault) is waits = IsOver.is_broken (fails fault is)
+        → is_written_out session.writing.output ≡ false
+        → is_truncated session.reading ≡ false → has_head session.writing.place ≡ false
+        → waits_to_begin session ≡ false → IsOver s client v.was.e treated
+    by_output (outgoing.Open queue) is waits kept none rests =
+        absurd (true≢false (sym (waits_by session queue kept none is waits) ∙ rests))
+    by_output (outgoing.Broken fault) is waits kept none rests =
+        IsOver.is_broken (fails fault is)
 
-    -- a final head was queued, or something waits
-    by_response : is_unqueued session.writing ≡ false → IsOver s client v.was.e All treated
-    by_response queued =
+    -- a final head was queued, or a write failed
+    by_response : is_unqueued session.writing ≡ false → is_truncated session.reading ≡ false
+        → waits_to_begin session ≡ false → IsOver s client v.was.e treated
+    by_response queued kept rests =
         elim (cases_Bool (has_head session.writing.place)) [
           | inl has ↦ IsOver.is_told (told_head v.was.e (v.final_head ∙ has))
           | inr none ↦ by_output session.writing.output refl
               (sym (ap (λ (b : Bool). not b && is_written_out session.writing.output) none) ∙ queued)
+              kept none rests
         ]
 
-    -- the session lets none begin
-    by_session : may_begin_again session ≡ false → IsOver s client v.was.e All treated
-    by_session stops =
+    -- the session lets none begin, nor would it once it is written out
+    by_session : may_begin_again session ≡ false → waits_to_begin session ≡ false
+        → IsOver s client v.was.e treated
+    by_session stops rests =
         elim (cases_Bool (is_kept session.reading)) [
           | inl kept ↦ by_response
               (sym (ap (λ (b : Bool). b && is_unqueued session.writing) kept) ∙ stops)
+              (kept_whole session.reading kept) rests
           | inr lost ↦ IsOver.is_told
               (told_lost v.was.e (v.truncated ∙ lost_of session.reading some lost))
         ]
 
     -- none may follow, or the session lets none begin
     pub over_as : (made : ℕ) → made ≡ made_before s
-        → (MayTry s.most (1 + made) treated → may_begin_again session ≡ false)
-        → IsOver s client v.was.e All treated
+        → (MayTry s.most (1 + made) treated
+        → (may_begin_again session ≡ false) × (waits_to_begin session ≡ false))
+        → IsOver s client v.was.e treated
     over_as made same stops =
         elim (may_or_not s.most (1 + made) treated) [
-          | inl may ↦ by_session (stops may)
+          | inl may ↦ by_session (stops may).0 (stops may).1
           | inr over ↦ IsOver.is_last
               (subst (λ (n : ℕ). ¬ (MayTry s.most (1 + n) treated)) same over)
         ]
@@ -158,7 +159,7 @@ begins_anew session kept at output =
 -- ---- once more was written
 
 -- a write that failed still did
-writes_still : (s : Start) (before after : LinkState) → WrittenTo before after
+pub writes_still : (s : Start) (before after : LinkState) → WrittenTo before after
     → FailsToWrite s before → FailsToWrite s after
 writes_still s before after to fails = record {
   fault = fails.fault;
@@ -170,11 +171,8 @@ writes_still s before after to fails = record {
 
 -- no attempt follows either
 pub over_on : (s : Start) (before after : LinkState) (call : LogEntry) (e : Error)
-    (given old new : List ℕ) → WrittenTo before after → new ≡ old
-    → IsOver s before call (given ≡ old) e → IsOver s after call (given ≡ new) e
-over_on s before after call e given old new to same (IsOver.is_last over) = IsOver.is_last over
-over_on s before after call e given old new to same (IsOver.is_told told) = IsOver.is_told told
-over_on s before after call e given old new to same (IsOver.waits unwritten) =
-    IsOver.waits (λ all. unwritten (all ∙ same))
-over_on s before after call e given old new to same (IsOver.is_broken fails) =
+    → WrittenTo before after → IsOver s before call e → IsOver s after call e
+over_on s before after call e to (IsOver.is_last over) = IsOver.is_last over
+over_on s before after call e to (IsOver.is_told told) = IsOver.is_told told
+over_on s before after call e to (IsOver.is_broken fails) =
     IsOver.is_broken (writes_still s before after to fails)

@@ -46,12 +46,12 @@ use Rattle.relay_proxy.specs.Endings.{IsClientReusable, IsRelayedEarly, IsRelaye
 use Rattle.relay_proxy.specs.Leaving.{LeavesBy}
 use Rattle.relay_proxy.specs.Sent.{Sends}
 use Rattle.relay_proxy.specs.Passed.{World, Start, origin_of, asked, TellsClient}
-use Rattle.relay_proxy.specs.Phases.{IsLeased, RunSoFar}
+use Rattle.relay_proxy.specs.Phases.{IsLeased, RunSoFar, written_out}
 use Rattle.relay_proxy.specs.Relaying.{turned, TurnsOver, TurnsWithin}
 use Rattle.relay_proxy.specs.Reuse.{client_reusable, has_risen}
 use Rattle.relay_proxy.specs.Turn.{world_with, Advances, HasMoved, HasWaited, MeetsSilence, held_state}
 use Rattle.relay_proxy.specs.Uses.{BothUse, ExchangeMoved, LinkUses, OwesAnswer, PhaseUses, TurnCounts, TurnUses, ups, work_by}
-use Rattle.relay_proxy.proofs.AgainLemmas.{begins_again, rebased_to}
+use Rattle.relay_proxy.proofs.AgainLemmas.{begins_out, rebased_to}
 use Rattle.relay_proxy.proofs.ConnectSteps.{part_relayed}
 use Rattle.relay_proxy.proofs.OpenHead.{exchange_open}
 use Rattle.relay_proxy.proofs.CountLemmas.{both_counts}
@@ -443,6 +443,7 @@ module _ {L C : Type 0} (state : L → LinkState) (start_at : L → LinkStart) w
             sent = run.holds.sent;
             relayable = run.holds.relayable;
             sends = run.holds.sends;
+            before = turns.passed.written;
             why = own.why;
             answers = own.answers;
             holds = own.holds;
@@ -456,12 +457,13 @@ module _ {L C : Type 0} (state : L → LinkState) (start_at : L → LinkStart) w
                 };
             is_left = same ∙ run.holds.is_left;
             quiet = run.holds.quiet;
-            again = λ begun.
+            again = λ queue is begun.
                 let o =
                 origin_of s run.holds.head run.holds.sent (start_at (link_of x)).reused in
                 subst (λ (came : List ℕ). BeginsBehind (rebased_to o client) came client ahead
-                x.exchange.down.session) own.came
-                (begins_again o own.down client ahead x.exchange.down.session own.client begun);
+                (written_out x.exchange.down.session)) own.came
+                (begins_out o own.down client ahead x.exchange.down.session own.client queue is
+                begun);
           }
 
 -- ---- a turn of a phase that relays

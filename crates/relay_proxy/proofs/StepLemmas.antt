@@ -1,6 +1,6 @@
 -- A step takes the run so far on, and the end adds up what it says.
 use Rattle.std.specs.Global.{Box}
-use Rattle.std.proofs.Common.{◌≡◌, ◌≢◌, ℕ, ◌+◌, ◌≤◌, Bool, true, false, List, [], ◌∷◌, ◌++◌, Option, None, Some, Ok, Err, map, true≢false, ◌⊎◌, refl, sym, ap, subst, ◌∙◌, inl, inr, append_assoc, append-nil, length, min, arith}
+use Rattle.std.proofs.Common.{◌≡◌, ◌≢◌, ℕ, ◌+◌, ◌≤◌, ◌<◌, Bool, true, false, List, [], ◌∷◌, ◌++◌, Option, None, Some, Ok, Err, map, true≢false, ◌⊎◌, refl, sym, ap, subst, ◌∙◌, inl, inr, append_assoc, append-nil, length, min, arith}
 use Rattle.relay_links.specs.Connector.{Offer}
 use Rattle.relay_links.specs.Count.{last_count}
 use Rattle.relay_links.specs.Link.{LinkState, LinkStart, LinkItems}
@@ -20,7 +20,7 @@ use Rattle.relay_proxy.specs.Endings.{error_of, IsErrorOf, EndsLinked, EndsUnlin
 use Rattle.relay_proxy.specs.Owed.{IsGivenBack, IsAnswering, IsHalfGiven}
 use Rattle.relay_proxy.specs.Taken.{Takes, offers_for, offers_before, offers_of_turn}
 use Rattle.relay_proxy.specs.Legs.{RepeatsOn, rebased}
-use Rattle.relay_proxy.specs.Phases.{IsLeased, IsFailing, IsGoing, IsRelaying, RunSoFar}
+use Rattle.relay_proxy.specs.Phases.{IsBroken, IsLeased, IsFailing, IsGoing, IsRelaying, RunSoFar}
 use Rattle.relay_proxy.specs.Refusals.{faults_for, faults_told, attempts_in, faults_before, faults_of_turn}
 use Rattle.relay_proxy.specs.Tries.{tries_in}
 use Rattle.relay_proxy.specs.Relaying.{is_closing, is_relaying}
@@ -29,8 +29,9 @@ use Rattle.relay_proxy.specs.Stock.{items_back, items_held}
 use Rattle.relay_proxy.specs.Turn.{Advances, HasMoved, HasCause, HandsOn, IsAgain, IsStalled, is_linked, is_over, is_end, is_reading_head}
 use Rattle.relay_proxy.specs.Uses.{LinkUses, OwesAnswer, OwnUses, PhaseUses, TurnCounts}
 use Rattle.relay_proxy.specs.Work.{added_work}
-use Rattle.relay_proxy.specs.Closing.{Hands, HandsBack, Settles, GivesUp, GivesFailedUp, AnswersOn, Finishes, IsQuietExchange, IsQuiet, Rests, TurnOf, Ends}
-use Rattle.relay_proxy.proofs.FailSteps.{broken_part}
+use Rattle.relay_proxy.specs.Closing.{Hands, HandsBack, Settles, GivesUp, GivesFailedUp, AnswersOn, Finishes, IsHalfInformed, IsQuietExchange, IsQuiet, Rests, TurnOf, Ends}
+use Rattle.relay_session.specs.Response.{pending}
+use Rattle.relay_proxy.proofs.FailSteps.{broken_part, left_front, left_waits}
 use Rattle.relay_proxy.proofs.TakenLemmas.{offers_are}
 use Rattle.relay_proxy.proofs.TryLemmas.{tries_before}
 use Rattle.relay_proxy.proofs.BoundLemmas.{open_counts, within_link}
@@ -143,7 +144,7 @@ module _ {L : Type 0} (state : L → LinkState) (start_at : L → LinkStart) whe
       → IsHalfGiven state start_at s p w own → w.client.silent_on_write ≡ true
       → IsQuiet state start_at s p w own
   quiet_answer s p w [] half silent = inr (half, silent)
-  quiet_answer s p w (r ∷ own) half silent = inr (half, silent)
+  quiet_answer s p w (r ∷ own) half silent = inr (inl (half, silent))
 
 -- more ends may come
 more_room : (tasks ends made : ℕ) (s : Start) (client : LinkState) (gave : List ℕ → Type 0)
@@ -980,6 +981,30 @@ module _ {L C : Type 0} (state : L → LinkState) (start_at : L → LinkStart) w
     silent = stalled;
   }
 
+  -- an attempt that failed, and of whose response something waits for the client
+  half_informed : (s : Start) (p : Passed) (w : World) (link : L) (session : Box HttpSession)
+      (lease : Lease) (keep : Bool) (e : Error)
+      → IsBroken s p w (state link) (start_at link) session.value lease keep e
+      → 0 < length (pending session.value.writing.output)
+      → IsHalfInformed state start_at s p w link
+  half_informed s p w link session lease keep e (IsBroken.in_exchange l kept) some = record {
+    head = l.head;
+    sent = l.sent;
+    relayable = l.relayable;
+    sends = l.sends;
+    before = l.before;
+    raised = e;
+    why = l.why;
+    part = left_front s p w.client w.ahead (state link) (start_at link) session.value e l;
+    left = left_waits s p w.client w.ahead (state link) (start_at link) session.value e l some;
+  }
+  half_informed s p w link session lease keep e (IsBroken.ahead_of_it l) some =
+      absurd (omega (
+        arith,
+        some,
+        ap length (ap pending (l.connecting.begins l.connecting.head false).output),
+      ))
+
   -- a request that gave its link up, or handed it back
   linked_end : (s : Start) (p : Passed) (w : World) (phase : Phase L C) (link : L) (lease : Lease)
       (keep : Bool) (before after : Option (List (Returned L))) (ending : Ending)
@@ -987,7 +1012,8 @@ module _ {L C : Type 0} (state : L → LinkState) (start_at : L → LinkStart) w
       → HandsBack link lease keep outcome before after ending.attempts
       → RunSoFar state start_at s p w [] phase → IsLeased s p (state link) (start_at link) lease
       → EndsLinked s p w (state link) (start_at link) keep (error_of outcome) outcome
-      → (IsStalled state start_at w phase → IsQuietExchange state start_at s p w link)
+      → ((r : Returned L) → r.link ≡ link → IsStalled state start_at w phase
+      → IsQuiet state start_at s p w (r ∷ []))
       → attempts_in phase ≡ tries_in lease → items_held start_at phase ≡ (start_at link).items ∷ []
       → ((n : ℕ) → PhaseUses state start_at n [] phase → LinkUses state start_at n link)
       → ((tasks ends : ℕ) → PhaseCounts state start_at tasks ends s w.client w.ahead [] phase
@@ -1021,8 +1047,7 @@ module _ {L C : Type 0} (state : L → LinkState) (start_at : L → LinkStart) w
         bounded = λ tasks ends counted. of_attempt state start_at tasks ends most_sides s w.client
             link lease back.entry ending.attempts back.hands.attempt back.hands.is_link
             back.hands.attempts_are (within tasks ends counted);
-        quiet = λ limit still. inl (subst (λ (l : L). IsQuietExchange state start_at s p w l)
-            (sym back.hands.is_link) (stalled still));
+        quiet = λ limit still. stalled back.entry back.hands.is_link still;
       }
 
   -- a request that had no link gave up, behind those attempts
@@ -1247,7 +1272,8 @@ module _ {L C : Type 0} (state : L → LinkState) (start_at : L → LinkStart) w
             run.holds.under_way.order),
         refl,
       )
-      (λ h. quiet_over s p w a run.holds h) refl refl (λ n asked. asked)
+      (λ r is h. inl (subst (λ (l : L). IsQuietExchange state start_at s p w l) (sym is)
+      (quiet_over s p w a run.holds h))) refl refl (λ n asked. asked)
       (λ tasks ends counted.
       let within = within_link state start_at tasks ends s w.client w.ahead a.value counted in
       record {
@@ -1260,13 +1286,15 @@ module _ {L C : Type 0} (state : L → LinkState) (start_at : L → LinkStart) w
       })
   end_of s p [] w (Close link lease keep outcome) before after ending does run =
       linked_end s p w (Close link lease keep outcome) link lease keep before after ending outcome
-      does.0 does.1 run run.holds.0 run.holds.1 (λ h. absurd h) refl refl (λ n asked. asked)
+      does.0 does.1 run run.holds.0 run.holds.1 (λ r is h. absurd h) refl refl (λ n asked. asked)
       (λ tasks ends counted. absurd counted)
   end_of s p [] w (Broken context session link lease keep e) before after ending does run =
       linked_end s p w (Broken context session link lease keep e) link lease false before after
       ending TurnLimit does.limit does.back run run.holds.0
       (broken_part s p w (state link) (start_at link) session.value lease keep e run.holds.1, refl)
-      (λ h. absurd h) refl refl (λ n asked. asked)
+      (λ r is h. inr (inr (subst (λ (l : L). IsHalfInformed state start_at s p w l) (sym is)
+      (half_informed s p w link session lease keep e run.holds.1 h.0), h.1))) refl refl
+      (λ n asked. asked)
       (λ tasks ends counted. more_room tasks ends (1 + length (tries_in lease)) s w.client
       (LinkGave state start_at link) counted)
   end_of s p [] w (Again context session link lease keep e) before after ending does run =

@@ -348,18 +348,27 @@ module _ {L C : Type 0} (state : L → LinkState) (start_at : L → LinkStart) w
   prepare_counts s p (r ∷ own) w context session link lease n used client next run had none asked =
       absurd run.holds
 
-  -- the turn that has the error of an attempt treated
+  -- the turn that has the error of an attempt treated, or writes what waits for its client
   pub broken_counts : (s : Start) (p : Passed) (own : List (Returned L)) (w : World) (context : C)
       (session : Box HttpSession) (link : L) (lease : Lease) (keep : Bool) (e : Error) (n used : ℕ)
-      (client : LinkState) (next : Phase L C)
+      (client client' : LinkState) (next : Phase L C)
       → RunSoFar state start_at s p w own (Broken context session link lease keep e)
-      → LinkUses state start_at n link → used ≡ 0
+      → LinkUses state start_at n link → ClientUses used client client'
       → ((k : ℕ) → LinkUses state start_at k link → PhaseUses state start_at k [] next)
-      → TurnCounts state start_at n client client used own next
-  broken_counts s p [] w context session link lease keep e n used client next run had none asked =
-      still_counts n used client [] next none (asked n had)
-  broken_counts s p (r ∷ own) w context session link lease keep e n used client next run had none
-      asked = absurd run.holds
+      → TurnCounts state start_at n client client' used own next
+  broken_counts s p [] w context session link lease keep e n used client client' next run had uses
+      asked =
+      let same : n ≡ 0 + n = omega (arith) in
+      let all : used ≡ used + 0 = omega (arith) in
+      record {
+        of_client = used;
+        of_own = 0;
+        client_rose = client_counts used client client' uses;
+        own_rose = subst (λ (k : ℕ). PhaseUses state start_at k [] next) same (asked n had);
+        all = all;
+      }
+  broken_counts s p (r ∷ own) w context session link lease keep e n used client client' next run had
+      uses asked = absurd run.holds
 
   -- the turn that has the error of a request without a link answered counts one end at most
   pub unlinked_turn_bounds : (s s' : Start) (p : Passed) (w x : World) (own : List (Returned L))

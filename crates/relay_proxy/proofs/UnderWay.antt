@@ -482,7 +482,7 @@ module _ {L C : Type 0} (state : L → LinkState) (start_at : L → LinkStart) w
   stalled_limit w (Unlinked context session attempts error) came is stalled = absurd stalled
   stalled_limit w (Prepare context session link lease) came is stalled = absurd stalled
   stalled_limit w (Relay a) came is stalled = is
-  stalled_limit w (Broken context session link lease keep e) came is stalled = absurd stalled
+  stalled_limit w (Broken context session link lease keep e) came is stalled = is
   stalled_limit w (Again context session link lease keep e) came is stalled = absurd stalled
   stalled_limit w (Fail link lease keep session e) came is stalled = absurd stalled
   stalled_limit w (Close link lease keep outcome) came is stalled = absurd stalled

@@ -1,15 +1,18 @@
 -- How a request gives its link back, and what it leaves.
-use Rattle.std.specs.Prelude.{◌≡◌, ◌⊎◌, ℕ, Bool, true, false, List, [], ◌∷◌, ◌++◌, length, Option, None, Some}
+use Rattle.std.specs.Prelude.{◌≡◌, ◌≢◌, ◌⊎◌, ℕ, Bool, true, false, List, [], ◌∷◌, ◌++◌, length, Option, None, Some}
 use Rattle.relay_tasks.specs.Head.{RequestHead}
 use Rattle.relay_tasks.specs.declared.Error.{Error}
 use Rattle.relay_links.specs.Link.{LinkState, LinkStart}
 use Rattle.relay_links.specs.Told.{more}
 use Rattle.relay_links.specs.declared.Returned.{Returned}
 use Rattle.relay_h1.specs.Verdict.{IsOpen}
+use Rattle.relay_peer.specs.Body.{IsFrontOf}
 use Rattle.relay_attempt.specs.Exchange.{IsUnderWay, SilentIn}
+use Rattle.relay_attempt.specs.Order.{FailsFor, order_of, text_of}
 use Rattle.relay_attempt.specs.Passed.{Passed}
 use Rattle.relay_attempt.specs.declared.h1_exchange.H1Exchange.{H1Exchange}
 use Rattle.relay_attempt.specs.Head.{link_of}
+use Rattle.relay_proxy.specs.Answer.{past_at}
 use Rattle.relay_proxy.specs.Sent.{Sends}
 use Rattle.relay_proxy.specs.Legs.{RepeatsOn}
 use Rattle.relay_proxy.specs.Bound.{IsWithin, OwnGave, PhaseCounts, most_sides}
@@ -161,16 +164,30 @@ module _ {L : Type 0} (state : L → LinkState) (start_at : L → LinkStart) whe
         w.client w.ahead exchange
     pub silent : SilentIn state start_at w.client exchange
 
+  -- an exchange failed over this link, and the client was given a part of what was queued in it
+  pub record IsHalfInformed (s : Start) (p : Passed) (w : World) (link : L) : Type 0 where
+    pub head : RequestHead
+    pub sent : RequestHead
+    pub relayable : IsRelayable head
+    pub sends : Sends s.called head sent
+    pub before : List ℕ
+    pub raised : Error
+    pub why : FailsFor (origin_of s head sent (start_at link).reused) (past_at p before) w.client
+        (state link) (start_at link) raised
+    pub part : IsFrontOf p.written (text_of (order_of why)).text
+    pub left : p.written ≢ (text_of (order_of why)).text
+
   -- all that a request asks is silent: without a link the client, that is to give more of an open
   -- head or to take more of a generated answer; with one the exchange, or the client that is to
-  -- take more of what it is owed
+  -- take more of what it is owed, or of what was queued before another attempt
   abbrev pub IsQuiet : Start → Passed → World → List (Returned L) → Type 0
   IsQuiet s p w [] =
       (IsOpen (asked s p) × (w.client.silent_on_read ≡ true))
       ⊎ (IsHalfGiven state start_at s p w [] × (w.client.silent_on_write ≡ true))
   IsQuiet s p w (r ∷ own) =
       IsQuietExchange s p w r.link
-      ⊎ (IsHalfGiven state start_at s p w (r ∷ own) × (w.client.silent_on_write ≡ true))
+      ⊎ ((IsHalfGiven state start_at s p w (r ∷ own) × (w.client.silent_on_write ≡ true))
+      ⊎ (IsHalfInformed s p w r.link × (w.client.silent_on_write ≡ true)))
 
 module _ {L C : Type 0} (state : L → LinkState) (start_at : L → LinkStart) where
   -- a turn that wrote of a generated answer: the attempts stay, and no link is held

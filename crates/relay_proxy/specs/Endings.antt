@@ -344,14 +344,11 @@ pub record IsRelayedEarly
 
 -- why no other attempt follows one whose error was treated so in that call: none may, behind so
 -- many; or a final head was queued, or bytes of the body were read that are kept no longer, as the
--- call was shown; or a part of what was queued for the client was not written, or a write to it
--- failed
-pub data IsOver (s : Start) (client : LinkState) (call : LogEntry) (is_written : Type 0) (e : Error)
-    : Type 0 where
-  is_last : ¬ (MayTry s.most (1 + made_before s) e) → IsOver s client call is_written e
-  is_told : may_try_again call ≡ false → IsOver s client call is_written e
-  waits : ¬ is_written → IsOver s client call is_written e
-  is_broken : FailsToWrite s client → IsOver s client call is_written e
+-- call was shown; or a write to the client failed
+pub data IsOver (s : Start) (client : LinkState) (call : LogEntry) (e : Error) : Type 0 where
+  is_last : ¬ (MayTry s.most (1 + made_before s) e) → IsOver s client call e
+  is_told : may_try_again call ≡ false → IsOver s client call e
+  is_broken : FailsToWrite s client → IsOver s client call e
 
 -- an exchange failed, when a part of what was queued had been written, and its error was treated:
 -- that is what was made of it, and was answered, since no other attempt could follow
@@ -368,7 +365,7 @@ pub record HasFailed
   pub told : IsAnswered s.closed e
   pub why : FailsFor (origin_of s head sent start.reused) (past_at p before) client link start
       raised
-  pub over : IsOver s client treated.e (before ≡ (text_of (order_of why)).text) e
+  pub over : IsOver s client treated.e e
 
 -- what was queued for the client in it, and then the answer to its error
 abbrev pub owed_by : {s : Start} {p : Passed} {client link : LinkState} {start : LinkStart}

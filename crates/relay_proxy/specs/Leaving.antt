@@ -9,6 +9,7 @@ use Rattle.relay_session.specs.Response.{pending}
 use Rattle.relay_session.specs.declared.session.HttpSession.{HttpSession}
 use Rattle.relay_session.specs.declared.writing.Writing.{Writing}
 use Rattle.relay_attempt.specs.Passed.{Passed}
+use Rattle.relay_proxy.specs.Calls.{ShowsSame}
 use Rattle.relay_proxy.specs.Endings.{IsPartRelayed}
 use Rattle.relay_proxy.specs.Passed.{Start}
 use Rattle.relay_proxy.specs.Phases.{LeavesSession}
@@ -34,3 +35,13 @@ pub data Answers {L C : Type 0} (new : Writing) (link : L) (lease : Lease) (keep
   is_over : pending new.output ≡ []
       → next ≡ phase.Close link lease keep (outcome.Served (Some e) false)
       → Answers new link lease keep e next
+
+-- what an attempt comes to of which some of what waits for the client is offered to it: it stands as
+-- it did, with a session of which hooks are shown the same; or memory was wanted
+pub data WritesAhead {L C : Type 0} (context : C) (client : HttpSession) (link : L) (lease : Lease)
+    (keep : Bool) (e : Error) (next : Phase L C) : Type 0 where
+  stays : (session : Box HttpSession) → ShowsSame session.value client
+      → next ≡ phase.Broken context session link lease keep e
+      → WritesAhead context client link lease keep e next
+  lost : next ≡ phase.Close link lease false outcome.OutOfMemory
+      → WritesAhead context client link lease keep e next

@@ -22,6 +22,7 @@ use Rattle.relay_attempt.specs.Passed.{Passed}
 use Rattle.relay_proxy.specs.Bound.{IsWithin, LinkGave, sides_before}
 use Rattle.relay_proxy.specs.Endings.{IsRecordOf}
 use Rattle.relay_proxy.specs.Named.{IsNamed}
+use Rattle.relay_proxy.specs.Answer.{past_at}
 use Rattle.relay_proxy.specs.Passed.{World, Start, based, opened_to, origin_of, IsUnsent, IsUntouched, TellsClient, TellsLink}
 use Rattle.relay_proxy.specs.Phases.{IsLeased}
 use Rattle.relay_proxy.specs.Refusals.{faults_told}
@@ -34,14 +35,15 @@ use Rattle.relay_proxy.specs.declared.machine.Phase.{Phase}
 use Rattle.relay_proxy.specs.declared.machine.Phase.TheVariants.{Again}
 use Rattle.relay_proxy.specs.declared.record.AttemptRecord.{AttemptRecord}
 
--- an attempt failed over that link, and its error was treated as this one: in its exchange, where
--- no final head was queued, and what was queued was written; or before its head was sent, where
--- nobody asked the link
+-- an attempt failed over that link, and its error was treated as this one: in its exchange, when a
+-- part of what was queued had been written, where no final head was queued, and all that was queued
+-- is written now; or before its head was sent, where nobody asked the link
 pub data FailsAgain (s : Start) (p : Passed) (client link : LinkState) (start : LinkStart)
     (keep : Bool) (e : Error) : Type 0 where
   in_exchange : (head sent : RequestHead) (raised : Error) → IsRelayable head
-      → Sends s.called head sent → IsTreated s.called raised e
-      → (why : FailsFor (origin_of s head sent start.reused) p client link start raised)
+      → Sends s.called head sent → IsTreated s.called raised e → (before : List ℕ)
+      → (why : FailsFor (origin_of s head sent start.reused) (past_at p before) client link start
+      raised)
       → has_head (text_of (order_of why)).place ≡ false
       → p.written ≡ (text_of (order_of why)).text → keep ≡ false
       → FailsAgain s p client link start keep e

@@ -1,5 +1,5 @@
 -- The phases of a request: what has passed when it stands in each of them, and what is left to do.
-use Rattle.std.specs.Prelude.{◌≡◌, ◌≢◌, Bool, false, true, ℕ, List, [], ◌∷◌, Some}
+use Rattle.std.specs.Prelude.{◌≡◌, ◌≢◌, ◌==◌, ◌&&◌, not, Bool, false, true, ℕ, List, [], ◌∷◌, length, Some}
 use Rattle.relay_tasks.specs.Head.{RequestHead}
 use Rattle.relay_tasks.specs.declared.Error.{Error}
 use Rattle.relay_tasks.specs.declared.Fault.{Fault}
@@ -9,8 +9,8 @@ use Rattle.relay_opening.specs.Told.{head_behind}
 use Rattle.relay_phases.specs.Turns.{wrote_in}
 use Rattle.relay_session.specs.Asked.{request_of}
 use Rattle.relay_session.specs.Front.{ends_with_head}
-use Rattle.relay_session.specs.Reading.{head_of, is_body_done}
-use Rattle.relay_session.specs.Response.{Holds}
+use Rattle.relay_session.specs.Reading.{head_of, is_body_done, is_truncated}
+use Rattle.relay_session.specs.Response.{Holds, has_head, pending}
 use Rattle.relay_session.specs.Session.{may_begin_again}
 use Rattle.relay_session.specs.declared.session.HttpSession.{HttpSession}
 use Rattle.relay_session.specs.declared.writing.Outgoing.TheVariants as outgoing
@@ -22,7 +22,7 @@ use Rattle.relay_attempt.specs.Head.{link_of}
 use Rattle.relay_proxy.specs.Relayable.{IsAccepted, IsRelayable}
 use Rattle.relay_proxy.specs.Passed.{World, Start, based, origin_of, asked, TellsClient, TellsLink, IsUnsent, IsUntouched}
 use Rattle.relay_proxy.specs.Sent.{Sends, RefusesToSend}
-use Rattle.relay_proxy.specs.Answer.{WaitsOf}
+use Rattle.relay_proxy.specs.Answer.{past_at, WaitsOf}
 use Rattle.relay_proxy.specs.Endings.{FailsToWrite, IsInOrder, IsUnconnected, Misses, error_of, EndsUnlinked, EndsLinked, EndsWith, AttemptsUnlinked}
 use Rattle.relay_proxy.specs.Owed.{IsAnswering}
 use Rattle.relay_proxy.specs.Named.{IsNamed}
@@ -84,16 +84,30 @@ pub record IsPreparing (s : Start) (p : Passed) (w : World) (link : LinkState) (
   pub connecting : IsConnecting s p w session (tries_in lease)
   pub fresh : IsHandedOut link start lease.reused
 
--- an exchange failed with that error, and left that session: it answers the request, with the tasks
--- that were queued, of whose text so much was written; where it keeps the fault of a write, a write
--- of the client's link failed
+-- informational heads wait for the client, and nothing else keeps another attempt from beginning
+-- with the session: the body is kept, and no final head was queued
+abbrev pub waits_to_begin : HttpSession → Bool
+waits_to_begin session =
+    not (is_truncated session.reading)
+    && (not (has_head session.writing.place) && not (length (pending session.writing.output) == 0))
+
+-- the session, once all that waits for its client was written
+abbrev pub written_out : HttpSession → HttpSession
+written_out session = record session {
+  writing = record session.writing { output = outgoing.Open [] };
+}
+
+-- an exchange failed with that error, when a part of what was queued had been written, and left that
+-- session: it answers the request, with the tasks that were queued, of whose text so much is written
+-- now; where it keeps the fault of a write, a write of the client's link failed
 pub record LeavesSession (s : Start) (p : Passed) (client : LinkState) (ahead : List ℕ)
     (link : LinkState) (start : LinkStart) (session : HttpSession) (e : Error) : Type 0 where
   pub head : RequestHead
   pub sent : RequestHead
   pub relayable : IsRelayable head
   pub sends : Sends s.called head sent
-  pub why : FailsFor (origin_of s head sent start.reused) p client link start e
+  pub before : List ℕ
+  pub why : FailsFor (origin_of s head sent start.reused) (past_at p before) client link start e
   pub answers : session.writing.request ≡ request_of head
   pub holds : Holds session.writing (queued_in (order_of why)) p.written
   pub broken : (fault : Fault) → session.writing.output ≡ outgoing.Broken fault
@@ -101,9 +115,12 @@ pub record LeavesSession (s : Start) (p : Passed) (client : LinkState) (ahead : 
   -- the session has the client's head as hooks left it, and they answered nothing
   pub is_left : head_of session.reading ≡ Some (head_behind head s.called)
   pub quiet : wrote_in s.called ≡ []
-  -- another attempt may begin with it where the body is kept and the response has not begun
-  pub again : may_begin_again session ≡ true
-      → BeginsBehind (origin_of (based s client) head sent start.reused) p.came client ahead session
+  -- once what waits was written another attempt may begin with it, where the body is kept and the
+  -- response has not begun
+  pub again : (queue : List ℕ) → session.writing.output ≡ outgoing.Open queue
+      → may_begin_again (written_out session) ≡ true
+      → BeginsBehind (origin_of (based s client) head sent start.reused) p.came client ahead
+      (written_out session)
 
 -- an attempt failed with that error ahead of its exchange, over a link that was handed out and is
 -- kept or not: the session has nothing queued yet

@@ -1,6 +1,6 @@
 -- What one turn makes of a phase.
 use Rattle.std.specs.Global.{Box}
-use Rattle.std.specs.Prelude.{◌≡◌, ◌⊎◌, ℕ, ◌<◌, Bool, true, false, List, [], ◌∷◌, ◌++◌, Option, None, Some}
+use Rattle.std.specs.Prelude.{◌≡◌, ◌⊎◌, ℕ, ◌<◌, Bool, true, false, List, [], ◌∷◌, ◌++◌, length, Option, None, Some}
 use Rattle.relay_links.specs.Count.{up}
 use Rattle.relay_links.specs.Link.{LinkState, LinkStart, GivesBytes, TakesBytes}
 use Rattle.relay_links.specs.declared.branch.Branch.{Branch}
@@ -8,6 +8,7 @@ use Rattle.relay_links.specs.declared.Returned.{Returned}
 use Rattle.relay_tasks.specs.declared.took.Pause.TheVariants.{NotReady, Silent}
 use Rattle.relay_h1.specs.Verdict.{IsOpen}
 use Rattle.relay_h1.specs.declared.Connection.{Connection}
+use Rattle.relay_session.specs.Response.{pending}
 use Rattle.relay_session.specs.declared.session.HttpSession.{HttpSession}
 use Rattle.relay_attempt.specs.Exchange.{SilentIn}
 use Rattle.relay_attempt.specs.Passed.{Passed}
@@ -138,8 +139,9 @@ module _ {L C : Type 0} (state : L → LinkState) (start_at : L → LinkStart) w
   abbrev pub Advances : Start → World → Phase L C → Type 0
   Advances s w next = AdvancesOn s w [] next
 
-  -- all that a phase asks is silent: outside an exchange the one link that it asks, and in an
-  -- exchange what its next write or each of its branches asks
+  -- all that a phase asks is silent: outside an exchange the one link that it asks, which is the
+  -- client's where it is to take what waits, and in an exchange what its next write or each of its
+  -- branches asks
   abbrev pub IsStalled : World → Phase L C → Type 0
   IsStalled w ReadHead = IsOpen w.ahead × (w.client.silent_on_read ≡ true)
   IsStalled w (Connect context session tries) = ⊥
@@ -147,7 +149,8 @@ module _ {L C : Type 0} (state : L → LinkState) (start_at : L → LinkStart) w
   IsStalled w (Prepare context session link lease) = ⊥
   IsStalled w (Relay a) =
       SilentIn state start_at w.client a.value.exchange
-  IsStalled w (Broken context session link lease keep error) = ⊥
+  IsStalled w (Broken context session link lease keep error) =
+      (0 < length (pending session.value.writing.output)) × (w.client.silent_on_write ≡ true)
   IsStalled w (Again context session link lease keep error) = ⊥
   IsStalled w (Fail link lease keep session error) = ⊥
   IsStalled w (Close link lease keep outcome) = ⊥

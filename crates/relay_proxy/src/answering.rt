@@ -1,8 +1,10 @@
 //! The generated answer of a request, and what was queued before it: written to the client (RFC
 //! 9110, section 15).
-ghost use Rattle.std.specs.Prelude.{◌≡◌, ◌⊎◌, ◌<◌, ◌&&◌, ℕ, List, [], length, false, true};
+ghost use Rattle.std.specs.Prelude.{◌≡◌, ◌⊎◌, ◌<◌, ◌&&◌, ◌++◌, ℕ, List, [], length, take, false, true};
+ghost use Rattle.relay_tasks.specs.declared.task.HttpTask.{HttpTask};
 ghost use Rattle.relay_attempt.specs.Passed.{Passed};
-ghost use Rattle.relay_session.specs.Response.{pending, MayWrite, WritesPending};
+ghost use Rattle.relay_h1.specs.Move.{taken};
+ghost use Rattle.relay_session.specs.Response.{pending, Holds, MayWrite, WritesPending};
 ghost use Rattle.relay_proxy.specs.Bound.{CountsAnswer, CountsCall};
 ghost use Rattle.relay_proxy.specs.Calls.{Owing, closed_with, log_of};
 ghost use Rattle.relay_proxy.specs.Endings.{error_of};
@@ -232,7 +234,10 @@ pub(crate) fn owe<M: HttpModule + Drop, K: Drop, L: ByteLink, C: Drop>(
 
 /// Offers what waits to the client, once. A session knows nothing of the value that the connection
 /// keeps, so that is set aside.
-fn offer<D: ByteLink, U: Drop>(session: &mut HttpSession, client: &mut Connection<D, U>) -> Put
+pub(crate) fn offer<D: ByteLink, U: Drop>(
+    session: &mut HttpSession,
+    client: &mut Connection<D, U>,
+) -> Put
     requires { MayWrite session.old.writing.output }
     ensures answer { WritesPending session.old.writing.output (D.state client.old.link)
         (D.state client.new.link) result session.new.writing.output }
@@ -241,6 +246,9 @@ fn offer<D: ByteLink, U: Drop>(session: &mut HttpSession, client: &mut Connectio
         output = session.new.writing.output;
       };
     } }
+    ensures keeps { (tasks : List HttpTask) (sent : List ℕ)
+        → Holds session.old.writing tasks sent → Holds session.new.writing tasks
+        (sent ++ take (taken result) (pending session.old.writing.output)) }
     ensures ahead { client.new.ahead ≡ client.old.ahead }
     ensures kept { client.new.kept ≡ client.old.kept }
     ensures client_start { D.start client.new.link ≡ D.start client.old.link }

@@ -221,7 +221,7 @@ fn move_on<SV: ProxyHttp, K: Connector, D: ByteLink, U: Drop>(
         Phase::Relay(_attempt) => unreachable!(),
         Phase::Broken(context, session, link, lease, keep, error) => {
             phase.go_on(fail(
-                hooks, most, calls, context, session, link, lease, keep, error,
+                hooks, most, calls, client, context, session, link, lease, keep, error,
             ))
         }
         Phase::Again(context, session, link, lease, keep, error) => phase.go_on(Next {

@@ -13,6 +13,7 @@ use Rattle.relay_proxy.proofs.RefusalLemmas.{none_added, none_unmade, others_tol
 use Rattle.relay_proxy.proofs.TakenLemmas.{takes_nothing, takes_more, took_more, one_out, no_offers}
 use Rattle.relay_proxy.proofs.TurnLemmas.{broken_counts, broken_faults, broken_offers, broken_turn, head_turn, connect_turn, none_unended, open_step, prepare_turn, head_counts, still_counts, connect_counts, prepare_counts, prepare_faults, prepare_offers, unlinked_asked, unlinked_offers, unlinked_open, unlinked_turn, unlinked_turn_bounds, answer_offers}
 use Rattle.relay_proxy.proofs.CallLemmas.{none_called}
+use Rattle.relay_proxy.proofs.CountLemmas.{client_both}
 use Rattle.relay_proxy.proofs.LastCalls.{owing_on}
 use Rattle.relay_proxy.proofs.turn.move_on.Goals as goal
 
@@ -600,11 +601,10 @@ returns-in-Broken-clause-turn g c =
     (called_to s (log_of c.args.calls.now)) (called_to s (log_of c.fail.new.calls)) p
     (world_of g.D.ByteLink.state c.args.client.now
     (g.K.Connector.fault_count c.args.connector.now))
-    (world_of g.D.ByteLink.state c.args.client.now
+    (world_of g.D.ByteLink.state c.fail.new.client
     (g.K.Connector.fault_count c.args.connector.now)) own _ _ _ _ _ _ c.fail.result.phase run
-    (λ first. c.fail.ensures.run s p
-    (world_of g.D.ByteLink.state c.args.client.now
-    (g.K.Connector.fault_count c.args.connector.now)) most calls first))
+    (λ first. c.fail.ensures.run s p (g.K.Connector.fault_count c.args.connector.now) most calls
+    first))
 
 -- its cause
 pub returns-in-Broken-clause-cause : goal.returns-in-Broken-clause-cause
@@ -614,28 +614,24 @@ returns-in-Broken-clause-cause g c =
       c.go_on-in-Broken.ensures.step,
       sym c.replace.ensures.value ∙ c.in-Broken.is,
     )
-    (c.fail.ensures.cause
-    (world_of g.D.ByteLink.state c.args.client.now
-    (g.K.Connector.fault_count c.args.connector.now))
-    (world_of g.D.ByteLink.state c.args.client.now
-    (g.K.Connector.fault_count c.args.connector.now)))
+    (c.fail.ensures.cause (g.K.Connector.fault_count c.args.connector.now))
 
--- it asks no link
+-- it asks the client's link, or none
 pub returns-in-Broken-clause-uses : goal.returns-in-Broken-clause-uses
 returns-in-Broken-clause-uses g c =
     rw (
       c.go_on-in-Broken.ensures.phase,
       c.go_on-in-Broken.ensures.work,
       sym c.replace.ensures.value ∙ c.in-Broken.is,
-      c.fail.ensures.unused,
     )
     (λ s p own run. (
       g.K.Byte.ByteLink.state c.in-Broken.link,
       c.fail.ensures.held,
-      inr (refl, record { client_same = refl; upstream_same = refl }),
+      client_both c.fail.result.work.used _ _ (g.K.Byte.ByteLink.state c.in-Broken.link)
+          c.fail.ensures.uses,
     ))
 
--- and counts no use
+-- and counts that use
 pub returns-in-Broken-clause-counts : goal.returns-in-Broken-clause-counts
 returns-in-Broken-clause-counts g c =
     rw (
@@ -644,8 +640,8 @@ returns-in-Broken-clause-counts g c =
       sym c.replace.ensures.value ∙ c.in-Broken.is,
     )
     (λ s p own n run had. broken_counts g.K.Byte.ByteLink.state g.K.Byte.ByteLink.start s p own
-    _ _ _ _ _ _ _ n c.fail.result.work.used _ c.fail.result.phase run had
-    c.fail.ensures.unused c.fail.ensures.asked)
+    _ _ _ _ _ _ _ n c.fail.result.work.used _ _ c.fail.result.phase run had
+    c.fail.ensures.uses c.fail.ensures.asked)
 
 -- but one end at most
 pub returns-in-Broken-clause-bounds : goal.returns-in-Broken-clause-bounds
@@ -656,11 +652,10 @@ returns-in-Broken-clause-bounds g c =
       sym c.replace.ensures.value ∙ c.in-Broken.is,
     )
     (λ s p own tasks ends most calls run had. treat_turn_bounds g.K.Byte.ByteLink.state
-    g.K.Byte.ByteLink.start s (log_of c.args.calls.now) (log_of c.fail.new.calls) p
-    (world_of g.D.ByteLink.state c.args.client.now
-    (g.K.Connector.fault_count c.args.connector.now)) own c.in-Broken.context c.in-Broken.session
-    c.in-Broken.link c.in-Broken.lease c.in-Broken.keep c.in-Broken.error c.fail.result.phase
-    c.fail.result.work tasks ends c.fail.ensures.counts c.fail.ensures.leaves had)
+    g.K.Byte.ByteLink.start s (log_of c.args.calls.now) (log_of c.fail.new.calls) _ _ _ _ own
+    c.in-Broken.context c.in-Broken.session c.in-Broken.link c.in-Broken.lease c.in-Broken.keep
+    c.in-Broken.error c.fail.result.phase c.fail.result.work tasks ends c.fail.ensures.gives
+    c.fail.ensures.counts c.fail.ensures.leaves had)
 
 -- it holds the link that it held
 pub returns-in-Broken-clause-carries : goal.returns-in-Broken-clause-carries
