@@ -255,11 +255,11 @@ holds_out response queue tasks taken is holds =
     record {
       counted = text.counted;
       wire = subst (λ (xs : List ℕ). IsWire response.request tasks (record {
-            text = xs;
-            counted = text.counted;
-            closes = response.closes;
-            place = response.place;
-          })) (sym (append-nil (taken ++ queue))) text.wire;
+        text = xs;
+        counted = text.counted;
+        closes = response.closes;
+        place = response.place;
+      })) (sym (append-nil (taken ++ queue))) text.wire;
       counts = text.counts;
     }
 

@@ -1292,8 +1292,11 @@ module _ {L C : Type 0} (state : L → LinkState) (start_at : L → LinkStart) w
       linked_end s p w (Broken context session link lease keep e) link lease false before after
       ending TurnLimit does.limit does.back run run.holds.0
       (broken_part s p w (state link) (start_at link) session.value lease keep e run.holds.1, refl)
-      (λ r is h. inr (inr (subst (λ (l : L). IsHalfInformed state start_at s p w l) (sym is)
-      (half_informed s p w link session lease keep e run.holds.1 h.0), h.1))) refl refl
+      (λ r is h. inr (inr (
+        subst (λ (l : L). IsHalfInformed state start_at s p w l) (sym is)
+            (half_informed s p w link session lease keep e run.holds.1 h.0),
+        h.1,
+      ))) refl refl
       (λ n asked. asked)
       (λ tasks ends counted. more_room tasks ends (1 + length (tries_in lease)) s w.client
       (LinkGave state start_at link) counted)

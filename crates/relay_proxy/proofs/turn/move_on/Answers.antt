@@ -652,7 +652,8 @@ returns-in-Broken-clause-bounds g c =
       sym c.replace.ensures.value ∙ c.in-Broken.is,
     )
     (λ s p own tasks ends most calls run had. treat_turn_bounds g.K.Byte.ByteLink.state
-    g.K.Byte.ByteLink.start s (log_of c.args.calls.now) (log_of c.fail.new.calls) _ _ _ _ own
+    g.K.Byte.ByteLink.start s (log_of c.args.calls.now) (log_of c.fail.new.calls) _ _
+    c.args.client.now.ahead c.fail.new.client.ahead own
     c.in-Broken.context c.in-Broken.session c.in-Broken.link c.in-Broken.lease c.in-Broken.keep
     c.in-Broken.error c.fail.result.phase c.fail.result.work tasks ends c.fail.ensures.gives
     c.fail.ensures.counts c.fail.ensures.leaves had)
