@@ -14,8 +14,7 @@
 --   as_begun_before         a session that a hook left as begun was so before
 use Rattle.std.proofs.Common.{◌≡◌, ℕ, ◌+◌, Bool, true, false, not, ◌&&◌, ◌||◌, List, [], ◌∷◌, ◌++◌, length, Option, Some, None, refl, sym, ap, subst, ◌∙◌, inl, inr, true≢false, arith, le_refl, append-nil}
 use Rattle.std.proofs.lemmas.Bool.{eqb-true}
-use Rattle.std.proofs.lemmas.List.{nil_from_length}
-use Rattle.std.specs.Prelude.{◌==◌, ◌⊎◌, if◌then◌else◌, min}
+use Rattle.std.specs.Prelude.{◌⊎◌, if◌then◌else◌, min}
 use Rattle.relay_tasks.specs.Head.{RequestHead}
 use Rattle.relay_tasks.specs.declared.task.HttpTask.{HttpTask}
 use Rattle.relay_tasks.specs.declared.task.HttpTask.TheVariants as task
@@ -23,14 +22,11 @@ use Rattle.relay_links.specs.Count.{last_count}
 use Rattle.relay_links.specs.Link.{LinkState}
 use Rattle.relay_links.specs.Told.{Since, told_length}
 use Rattle.relay_links.proofs.SinceLemmas.{Since-start}
-use Rattle.relay_h1.specs.BodyReader.{is_done}
 use Rattle.relay_h1.specs.BodyWire.{after_piece}
 use Rattle.relay_h1.specs.ClientHead.{is_informational}
 use Rattle.relay_h1.specs.Verdict.{HasRequest}
 use Rattle.relay_h1.specs.declared.framing.Framing.{Framing}
-use Rattle.relay_h1.proofs.VerdictLemmas.{HasRequest-unique}
-use Rattle.relay_session.specs.Front.{ends_with_head}
-use Rattle.relay_session.specs.Reading.{IsWhole, RequestSoFar, is_body_done, is_kept, is_truncated, with_head}
+use Rattle.relay_session.specs.Reading.{is_kept, is_truncated}
 use Rattle.relay_session.specs.Response.{Holds, HoldsOn, IsText, has_head, is_unqueued, is_written_out}
 use Rattle.relay_session.specs.Session.{may_begin_again}
 use Rattle.relay_session.specs.TaskSteps.{IsWire}

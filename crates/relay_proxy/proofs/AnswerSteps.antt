@@ -11,7 +11,6 @@ use Rattle.relay_tasks.specs.declared.Error.{Error}
 use Rattle.relay_tasks.specs.declared.ErrorSource.TheVariants.{Downstream}
 use Rattle.relay_tasks.specs.declared.Fault.{Fault}
 use Rattle.relay_tasks.specs.declared.task.HttpTask.{HttpTask}
-use Rattle.relay_links.specs.Count.{Rose}
 use Rattle.relay_links.specs.Link.{LinkState, LinkStart, FailsWrite}
 use Rattle.relay_links.specs.declared.Returned.{Returned}
 use Rattle.relay_links.specs.declared.link.Put.{Put}
@@ -25,15 +24,14 @@ use Rattle.relay_session.specs.declared.writing.Outgoing.{Outgoing}
 use Rattle.relay_session.specs.declared.writing.Outgoing.TheVariants as outgoing
 use Rattle.relay_core.specs.Past.{Origin}
 use Rattle.relay_peer.specs.Body.{IsFrontOf}
-use Rattle.relay_peer.specs.Faults.{IsLast}
 use Rattle.relay_peer.proofs.FaultLemmas.{added_last, grew_none, grew_same, more_none}
-use Rattle.relay_attempt.specs.Order.{FailsFor, WrittenTo, order_of, text_of, queued_in}
+use Rattle.relay_attempt.specs.Order.{FailsFor, WrittenTo, order_of, queued_in}
 use Rattle.relay_attempt.specs.Passed.{Passed}
 use Rattle.relay_attempt.proofs.FailLemmas.{blames_still, written_to}
 use Rattle.relay_valid.specs.Valid.{IsValid}
 use Rattle.relay_valid.proofs.ValidLemmas.{never_fails}
 use Rattle.relay_proxy.specs.Ahead.{IsOwedAhead}
-use Rattle.relay_proxy.specs.Answer.{owed_text, past_at, WaitsOf, answer_to}
+use Rattle.relay_proxy.specs.Answer.{past_at, WaitsOf, answer_to}
 use Rattle.relay_proxy.specs.Endings.{IsInOrder, IsGiven, IsGivenAhead, AttemptsFailed, EndsAhead, IsPartAhead, IsPartRefused, FailsToWrite, IsFailedAttempt, IsUnsentAttempt, IsHalfRefused, IsPart, HasFailed, Misses, owed_by, EndsWith, FailsToGive}
 use Rattle.relay_proxy.specs.Owed.{Owes, HasAttempts, IsAnswering, IsAnsweredCalmly, TellsAgain, TellsOwed, outcome_written, outcome_failed}
 use Rattle.relay_proxy.specs.Reuse.{goes_back_with}

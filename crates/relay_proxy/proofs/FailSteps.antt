@@ -46,6 +46,7 @@ use Rattle.relay_attempt.specs.Order.{order_of, queued_in, text_of}
 use Rattle.relay_attempt.specs.Passed.{Passed}
 use Rattle.relay_proxy.specs.Answer.{answer_to, owed_text, WaitsOf}
 use Rattle.relay_proxy.specs.Calls.{CallsNext, GoesOn, IsTreatedBefore, IsUnended, TakesNext, leads_at, log_of, seen_with}
+use Rattle.relay_proxy.specs.Closing.{IsHalfInformed}
 use Rattle.relay_proxy.specs.Endings.{IsInOrder, IsGiven, FailsToWrite, IsPartRelayed, Misses}
 use Rattle.relay_proxy.specs.Leaving.{Answers}
 use Rattle.relay_proxy.specs.Legs.{FailsAgain, RepeatsOn}
@@ -141,7 +142,7 @@ front_of request response tasks taken (outgoing.Broken fault) own held = record 
 }
 
 -- so it is of a session that a failed exchange left
-pub left_front : (s : Start) (p : Passed) (client : LinkState) (ahead : List ℕ) (link : LinkState)
+left_front : (s : Start) (p : Passed) (client : LinkState) (ahead : List ℕ) (link : LinkState)
     (start : LinkStart) (session : HttpSession) (e : Error)
     (l : LeavesSession s p client ahead link start session e)
     → IsFrontOf p.written (text_of (order_of l.why)).text
@@ -150,7 +151,7 @@ left_front s p client ahead link start session e l =
     session.writing.output l.answers l.holds
 
 -- and not all of it, where something waits
-pub left_waits : (s : Start) (p : Passed) (client : LinkState) (ahead : List ℕ) (link : LinkState)
+left_waits : (s : Start) (p : Passed) (client : LinkState) (ahead : List ℕ) (link : LinkState)
     (start : LinkStart) (session : HttpSession) (e : Error)
     (l : LeavesSession s p client ahead link start session e)
     → 0 < length (pending session.writing.output)
@@ -177,6 +178,30 @@ left_waits s p client ahead link start session e l some whole =
           ap (λ (xs : List ℕ). length xs) whole,
         ))
     by (outgoing.Broken fault) held some = absurd (omega (arith, some))
+
+-- an attempt that failed, and of whose response something waits for the client
+pub half_informed : {L : Type 0} (state : L → LinkState) (start_at : L → LinkStart) (s : Start)
+    (p : Passed) (w : World) (link : L) (session : HttpSession) (lease : Lease) (keep : Bool)
+    (e : Error) → IsBroken s p w (state link) (start_at link) session lease keep e
+    → 0 < length (pending session.writing.output) → IsHalfInformed state start_at s p w link
+half_informed state start_at s p w link session lease keep e (IsBroken.in_exchange l kept) some =
+    record {
+      head = l.head;
+      sent = l.sent;
+      relayable = l.relayable;
+      sends = l.sends;
+      before = l.before;
+      raised = e;
+      why = l.why;
+      part = left_front s p w.client w.ahead (state link) (start_at link) session e l;
+      left = left_waits s p w.client w.ahead (state link) (start_at link) session e l some;
+    }
+half_informed state start_at s p w link session lease keep e (IsBroken.ahead_of_it l) some =
+    absurd (omega (
+      arith,
+      some,
+      ap length (ap pending (l.connecting.begins l.connecting.head false).output),
+    ))
 
 -- what passed is a part of one exchange
 pub leaves_part : (s : Start) (p : Passed) (client : LinkState) (ahead : List ℕ) (link : LinkState)

@@ -5,28 +5,24 @@
 --   begins_anew          a session of which nothing was queued lets one begin
 --   writes_still         a write of the client's link that failed still did behind one more
 --   over_on              none follows either once more was written
-use Rattle.std.proofs.Common.{◌≡◌, ℕ, ◌+◌, Bool, true, false, not, ◌&&◌, List, [], ◌∷◌, ◌++◌, length, map, refl, sym, ap, subst, ◌∙◌, inl, inr, true≢false, arith, append-nil, length-append}
+use Rattle.std.proofs.Common.{◌≡◌, ℕ, ◌+◌, Bool, true, false, not, ◌&&◌, List, [], ◌∷◌, length, map, refl, sym, ap, subst, ◌∙◌, inl, inr, true≢false, arith, length-append}
 use Rattle.std.proofs.lemmas.Bool.{cases_Bool}
 use Rattle.std.proofs.lemmas.List.{length-map}
-use Rattle.std.specs.Prelude.{◌==◌, ◌⊎◌, IsSome}
+use Rattle.std.specs.Prelude.{◌==◌, IsSome}
 use Rattle.relay_tasks.specs.declared.Error.{Error}
 use Rattle.relay_tasks.specs.declared.Fault.{Fault}
 use Rattle.relay_tasks.specs.declared.log.LogEntry.{LogEntry}
-use Rattle.relay_tasks.specs.declared.task.HttpTask.{HttpTask}
 use Rattle.relay_links.specs.Link.{LinkState}
 use Rattle.relay_session.specs.Reading.{head_of, is_kept, is_truncated}
 use Rattle.relay_session.specs.Response.{has_head, is_unqueued, is_written_out, pending}
 use Rattle.relay_session.specs.Session.{may_begin_again}
-use Rattle.relay_session.specs.TaskWire.{Sent, wire}
 use Rattle.relay_session.specs.declared.reading.Reading.{Reading}
 use Rattle.relay_session.specs.declared.reading.Reading.TheVariants as reading
 use Rattle.relay_session.specs.declared.session.HttpSession.{HttpSession}
 use Rattle.relay_session.specs.declared.task_text.Place.{Place}
 use Rattle.relay_session.specs.declared.task_text.Place.TheVariants as place
-use Rattle.relay_session.specs.declared.task_text.Request.{Request}
 use Rattle.relay_session.specs.declared.writing.Outgoing.{Outgoing}
 use Rattle.relay_session.specs.declared.writing.Outgoing.TheVariants as outgoing
-use Rattle.relay_session.specs.declared.writing.Writing.{Writing}
 use Rattle.relay_phases.specs.Order.{is_marked, may_try_again}
 use Rattle.relay_peer.proofs.FaultLemmas.{among_still}
 use Rattle.relay_sides.proofs.ClientPast.{rose_on}

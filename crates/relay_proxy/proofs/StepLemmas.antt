@@ -1,6 +1,6 @@
 -- A step takes the run so far on, and the end adds up what it says.
 use Rattle.std.specs.Global.{Box}
-use Rattle.std.proofs.Common.{◌≡◌, ◌≢◌, ℕ, ◌+◌, ◌≤◌, ◌<◌, Bool, true, false, List, [], ◌∷◌, ◌++◌, Option, None, Some, Ok, Err, map, true≢false, ◌⊎◌, refl, sym, ap, subst, ◌∙◌, inl, inr, append_assoc, append-nil, length, min, arith}
+use Rattle.std.proofs.Common.{◌≡◌, ◌≢◌, ℕ, ◌+◌, ◌≤◌, Bool, true, false, List, [], ◌∷◌, ◌++◌, Option, None, Some, Ok, Err, map, true≢false, ◌⊎◌, refl, sym, ap, subst, ◌∙◌, inl, inr, append_assoc, append-nil, length, min, arith}
 use Rattle.relay_links.specs.Connector.{Offer}
 use Rattle.relay_links.specs.Count.{last_count}
 use Rattle.relay_links.specs.Link.{LinkState, LinkStart, LinkItems}
@@ -20,7 +20,7 @@ use Rattle.relay_proxy.specs.Endings.{error_of, IsErrorOf, EndsLinked, EndsUnlin
 use Rattle.relay_proxy.specs.Owed.{IsGivenBack, IsAnswering, IsHalfGiven}
 use Rattle.relay_proxy.specs.Taken.{Takes, offers_for, offers_before, offers_of_turn}
 use Rattle.relay_proxy.specs.Legs.{RepeatsOn, rebased}
-use Rattle.relay_proxy.specs.Phases.{IsBroken, IsLeased, IsFailing, IsGoing, IsRelaying, RunSoFar}
+use Rattle.relay_proxy.specs.Phases.{IsLeased, IsFailing, IsGoing, IsRelaying, RunSoFar}
 use Rattle.relay_proxy.specs.Refusals.{faults_for, faults_told, attempts_in, faults_before, faults_of_turn}
 use Rattle.relay_proxy.specs.Tries.{tries_in}
 use Rattle.relay_proxy.specs.Relaying.{is_closing, is_relaying}
@@ -30,8 +30,7 @@ use Rattle.relay_proxy.specs.Turn.{Advances, HasMoved, HasCause, HandsOn, IsAgai
 use Rattle.relay_proxy.specs.Uses.{LinkUses, OwesAnswer, OwnUses, PhaseUses, TurnCounts}
 use Rattle.relay_proxy.specs.Work.{added_work}
 use Rattle.relay_proxy.specs.Closing.{Hands, HandsBack, Settles, GivesUp, GivesFailedUp, AnswersOn, Finishes, IsHalfInformed, IsQuietExchange, IsQuiet, Rests, TurnOf, Ends}
-use Rattle.relay_session.specs.Response.{pending}
-use Rattle.relay_proxy.proofs.FailSteps.{broken_part, left_front, left_waits}
+use Rattle.relay_proxy.proofs.FailSteps.{broken_part, half_informed}
 use Rattle.relay_proxy.proofs.TakenLemmas.{offers_are}
 use Rattle.relay_proxy.proofs.TryLemmas.{tries_before}
 use Rattle.relay_proxy.proofs.BoundLemmas.{open_counts, within_link}
@@ -981,30 +980,6 @@ module _ {L C : Type 0} (state : L → LinkState) (start_at : L → LinkStart) w
     silent = stalled;
   }
 
-  -- an attempt that failed, and of whose response something waits for the client
-  half_informed : (s : Start) (p : Passed) (w : World) (link : L) (session : Box HttpSession)
-      (lease : Lease) (keep : Bool) (e : Error)
-      → IsBroken s p w (state link) (start_at link) session.value lease keep e
-      → 0 < length (pending session.value.writing.output)
-      → IsHalfInformed state start_at s p w link
-  half_informed s p w link session lease keep e (IsBroken.in_exchange l kept) some = record {
-    head = l.head;
-    sent = l.sent;
-    relayable = l.relayable;
-    sends = l.sends;
-    before = l.before;
-    raised = e;
-    why = l.why;
-    part = left_front s p w.client w.ahead (state link) (start_at link) session.value e l;
-    left = left_waits s p w.client w.ahead (state link) (start_at link) session.value e l some;
-  }
-  half_informed s p w link session lease keep e (IsBroken.ahead_of_it l) some =
-      absurd (omega (
-        arith,
-        some,
-        ap length (ap pending (l.connecting.begins l.connecting.head false).output),
-      ))
-
   -- a request that gave its link up, or handed it back
   linked_end : (s : Start) (p : Passed) (w : World) (phase : Phase L C) (link : L) (lease : Lease)
       (keep : Bool) (before after : Option (List (Returned L))) (ending : Ending)
@@ -1255,7 +1230,7 @@ module _ {L C : Type 0} (state : L → LinkState) (start_at : L → LinkStart) w
       linked_end s p w (Prepare context session link lease) link lease false before after ending
       TurnLimit does.limit does.back run run.holds.0
       (inr (run.holds.1.connecting.written, run.holds.1.connecting.unsent), refl)
-      (λ h. absurd h) refl refl (λ n asked. asked)
+      (λ r is h. absurd h) refl refl (λ n asked. asked)
       (λ tasks ends counted. record {
         came = p.came;
         got = p.got;
@@ -1294,7 +1269,7 @@ module _ {L C : Type 0} (state : L → LinkState) (start_at : L → LinkStart) w
       (broken_part s p w (state link) (start_at link) session.value lease keep e run.holds.1, refl)
       (λ r is h. inr (inr (
         subst (λ (l : L). IsHalfInformed state start_at s p w l) (sym is)
-            (half_informed s p w link session lease keep e run.holds.1 h.0),
+            (half_informed state start_at s p w link session.value lease keep e run.holds.1 h.0),
         h.1,
       ))) refl refl
       (λ n asked. asked)
