@@ -1,13 +1,15 @@
 -- An error is answered, or the hook that comes next is called; where neither is due, the connector
 -- is asked.
-use Rattle.std.proofs.Common.{[], List, ap, refl, sym, subst}
-use Rattle.relay_proxy.specs.Calls.{log_of}
+use Rattle.std.proofs.Common.{[], List, ap, refl, sym, subst, ◌∙◌}
+use Rattle.relay_proxy.specs.Calls.{log_of, station_at}
 use Rattle.relay_proxy.specs.Passed.{Start}
 use Rattle.relay_proxy.specs.Phases.{RunSoFar}
 use Rattle.relay_proxy.specs.Refusals.{faults_told}
 use Rattle.relay_proxy.specs.Turn.{Advances, world_with}
 use Rattle.relay_proxy.specs.declared.machine.Phase.TheVariants as phase
 use Rattle.relay_proxy.specs.declared.record.AttemptRecord.{AttemptRecord}
+use Rattle.relay_proxy.proofs.LastCalls.{calls_logged}
+use Rattle.relay_proxy.proofs.PurgeSteps.{asks_nothing, final_unpurged, opens_elsewhere}
 use Rattle.relay_proxy.proofs.TakenLemmas.{none_asked}
 use Rattle.relay_proxy.proofs.TreatLemmas.{still_open}
 use Rattle.relay_proxy.proofs.opening.reach.Goals as goal
@@ -74,3 +76,31 @@ returns-clause-run g c = λ s p client ahead limit o run.
 -- and the application may be told of it
 pub returns-clause-calls : goal.returns-clause-calls
 returns-clause-calls g c = λ o. c.connect.ensures.calls o
+
+-- the purger is asked in the turn of a purge alone
+pub returns-in-Some-clause-purger : goal.returns-in-Some-clause-purger
+returns-in-Some-clause-purger g c = λ o.
+    let logged = calls_logged _ _ c.answer.new.calls c.answer.result.phase
+    (c.answer.ensures.calls o) in
+    asks_nothing _ _ c.args.calls.now c.answer.new.calls c.answer.result.phase
+    (station_at c.args.calls.now.at) logged.0 refl o.order
+    (opens_elsewhere c.args.calls.now.at
+    (final_unpurged c.args.calls.now.at c.in-Some.error (sym c.final_error.ensures ∙ c.in-Some.is)))
+    logged.1.order c.answer.ensures.called.grows c.answer.ensures.called.once
+
+pub returns-then-is_calling-clause-purger : goal.returns-then-is_calling-clause-purger
+returns-then-is_calling-clause-purger g c = λ o.
+    let logged = calls_logged _ _ c.open.new.calls c.open.result.phase (c.open.ensures.calls o) in
+    asks_nothing _ _ c.args.calls.now c.open.new.calls c.open.result.phase
+    (station_at c.args.calls.now.at) logged.0 refl o.order
+    (opens_elsewhere c.args.calls.now.at (sym c.purge.ensures ∙ c.in-None.is))
+    logged.1.order c.open.ensures.called.grows c.open.ensures.called.once
+
+pub returns-clause-purger : goal.returns-clause-purger
+returns-clause-purger g c = λ o.
+    let logged = calls_logged _ _ c.connect.new.calls c.connect.result.phase
+    (c.connect.ensures.calls o) in
+    asks_nothing _ _ c.args.calls.now c.connect.new.calls c.connect.result.phase
+    (station_at c.args.calls.now.at) logged.0 refl o.order
+    (opens_elsewhere c.args.calls.now.at (sym c.purge.ensures ∙ c.in-None.is))
+    logged.1.order c.connect.ensures.called.grows c.connect.ensures.called.once
