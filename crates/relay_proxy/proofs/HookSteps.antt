@@ -39,7 +39,6 @@ use Rattle.relay_opening.specs.declared.place.End.TheVariants as end
 use Rattle.relay_opening.proofs.QueuedLemmas.{end_open}
 use Rattle.relay_attempt.specs.Passed.{Passed}
 use Rattle.relay_proxy.specs.Ahead.{IsOwedAhead, LastFails}
-use Rattle.relay_proxy.specs.Answer.{QueuesAnswer, answer_for}
 use Rattle.relay_proxy.specs.Calls.{CallsNext, CountsCalls, EndsBy, Goes, GoesOn, IsLogged, IsOpening, IsOwing, IsUnended, TakesNext, TellsError, TellsPeer, comes_next, failed_at, final_at, is_before, leads_at, leads_to, log_of, place_station, seen_with, station_at}
 use Rattle.relay_proxy.specs.Passed.{Start, World, begins_end, opened_to}
 use Rattle.relay_proxy.specs.Phases.{IsConnecting}

@@ -434,7 +434,7 @@ module _ {C M K : Type 0} (allows : Standing → LogEntry → Type 0) (mark_of :
       let logged = purge_order end.Answered once tries o in
       let unended : IsUnended (log_of new) = purge_unended end.Answered once o.unended in (
         record {
-          from = logged.from;
+          from = o.from;
           walks = walks_more allows mark_of old new context context' client left o.from once.turn.e
               once.turn.calls o.walks;
           start = station.answered;

@@ -7,7 +7,7 @@ use Rattle.relay_proxy.specs.Turn.{Advances}
 use Rattle.relay_proxy.specs.declared.calls.Calls.{Calls}
 use Rattle.relay_proxy.specs.declared.owed.Owed.TheVariants as owing
 use Rattle.relay_proxy.proofs.LastCalls.{counted_still, owing_log, owing_on}
-use Rattle.relay_proxy.proofs.HookSteps.{answered, answered_owing, counts_called, goes_connecting, known_at, memory_called, memory_logged, opening_on, purged, purged_owing, refusals, unended, untreated}
+use Rattle.relay_proxy.proofs.HookSteps.{answered, answered_owing, counts_called, goes_connecting, known_at, memory_called, memory_logged, opening_on, refusals, unended, untreated}
 use Rattle.relay_proxy.proofs.OpenSteps.{called_tries, hooks_leave, hooks_lost, none_tried, opened_on}
 use Rattle.relay_proxy.proofs.opening.open.Goals as goal
 

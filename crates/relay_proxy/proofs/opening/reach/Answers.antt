@@ -93,7 +93,7 @@ returns-then-is_calling-clause-purger g c = λ o.
     let logged = calls_logged _ _ c.open.new.calls c.open.result.phase (c.open.ensures.calls o) in
     asks_nothing _ _ c.args.calls.now c.open.new.calls c.open.result.phase
     (station_at c.args.calls.now.at) logged.0 refl o.order
-    (opens_elsewhere c.args.calls.now.at (sym c.purge.ensures ∙ c.in-None.is))
+    (opens_elsewhere c.args.calls.now.at (sym c.purge.ensures ∙ c.in_default-purge.is))
     logged.1.order c.open.ensures.called.grows c.open.ensures.called.once
 
 pub returns-clause-purger : goal.returns-clause-purger
@@ -102,5 +102,31 @@ returns-clause-purger g c = λ o.
     (c.connect.ensures.calls o) in
     asks_nothing _ _ c.args.calls.now c.connect.new.calls c.connect.result.phase
     (station_at c.args.calls.now.at) logged.0 refl o.order
-    (opens_elsewhere c.args.calls.now.at (sym c.purge.ensures ∙ c.in-None.is))
+    (opens_elsewhere c.args.calls.now.at (sym c.purge.ensures ∙ c.in_default-purge.is))
     logged.1.order c.connect.ensures.called.grows c.connect.ensures.called.once
+
+-- a purge is done, and the connector is not asked
+pub returns-in-Some-purge-clause-run : goal.returns-in-Some-purge-clause-run
+returns-in-Some-purge-clause-run g c = λ s p client ahead limit o run.
+    let w = world_with client ahead (g.K.Connector.fault_count c.args.connector.now) in
+    subst
+    (λ (t : Start). Advances g.K.Byte.ByteLink.state g.K.Byte.ByteLink.start t w
+    c.purge-in-Some-purge.result.phase)
+    (sym (still_open s (log_of c.purge-in-Some-purge.new.calls)
+    (c.purge-in-Some-purge.ensures.unended o.unended)))
+    (c.purge-in-Some-purge.ensures.run s p w o
+    (subst
+    (λ (t : Start). RunSoFar g.K.Byte.ByteLink.state g.K.Byte.ByteLink.start t p w []
+    (phase.Connect c.args.context c.args.session c.args.tries))
+    (still_open s (log_of c.args.calls.now) o.unended) run))
+
+pub returns-in-Some-purge-clause-cause : goal.returns-in-Some-purge-clause-cause
+returns-in-Some-purge-clause-cause g c = λ client ahead.
+    c.purge-in-Some-purge.ensures.cause
+    (world_with client ahead (g.K.Connector.fault_count c.args.connector.now))
+
+pub returns-in-Some-purge-clause-asks : goal.returns-in-Some-purge-clause-asks
+returns-in-Some-purge-clause-asks g c =
+    none_asked _ _ _ _ _ _ _
+    (ap (λ (xs : List AttemptRecord). faults_told xs) c.purge-in-Some-purge.ensures.attempts)
+    c.purge-in-Some-purge.ensures.no_items refl refl

@@ -73,7 +73,8 @@ returns-in-Answered-clause-unended g c = λ none.
 -- the purger was asked once
 pub returns-in-Answered-clause-purger : goal.returns-in-Answered-clause-purger
 returns-in-Answered-clause-purger g c = λ o.
-    subst (λ (l : List LogEntry). AsksPurger _ _ (log_of c.args.calls.now) l c.owe.result.phase)
+    subst (λ (l : List LogEntry). AsksPurger (g.P.Purger.state c.args.purger.now)
+    (g.P.Purger.state c.call_purger.new.purger) (log_of c.args.calls.now) l c.owe.result.phase)
     (sym (owing_log _ _ _ _ _ c.owe.ensures.calls
     ∙ ap (λ (k : Calls _ _ _). log_of k) c.begin_end.ensures))
     (asks_once _ (g.SV.ProxyHttp.mark_of c.args.app.now) c.args.calls.now
