@@ -149,7 +149,9 @@ loop-turn-preserved g c =
       rw c.step-step.ensures.same (c.step-step.ensures.calls c.loop-turn.invariant.9),
       c.step-step.ensures.logs c.loop-turn.invariant.10,
       c.step-step.ensures.first ∙ c.loop-turn.invariant.11,
-      purged_on _ _ _ _ c.loop-turn.invariant.12 (log_of c.step-step.new.machine.calls)
+      purged_on (g.P.Purger.state c.args.self.now.purger)
+          (g.P.Purger.state c.loop-turn.self.purger) (g.P.Purger.state c.step-step.new.self.purger)
+          (log_of c.loop-turn.machine.calls) c.loop-turn.invariant.12 (log_of c.step-step.new.machine.calls)
           c.step-step.new.machine.machine.phase
           (λ lost. true≢false
           (sym (lost_done c.step-step.new.machine.machine.phase c.step-step.new.machine.calls.at
@@ -235,7 +237,9 @@ returns-clause-kept g c = λ some.
 pub returns-then-is_stop-clause-purger : goal.returns-then-is_stop-clause-purger
 returns-then-is_stop-clause-purger g c =
     rw (c.close.ensures.same, c.close.ensures.log)
-    (purged_end _ _ _ _ c.loop-turn.invariant.12 (log_of c.step-step.new.machine.calls)
+    (purged_end (g.P.Purger.state c.args.self.now.purger)
+    (g.P.Purger.state c.loop-turn.self.purger) (g.P.Purger.state c.step-step.new.self.purger)
+    (log_of c.loop-turn.machine.calls) c.loop-turn.invariant.12 (log_of c.step-step.new.machine.calls)
     c.step-step.new.machine.machine.phase c.close.result.outcome c.close.ensures.lost
     (c.step-step.ensures.purger c.loop-turn.invariant.9))
 
