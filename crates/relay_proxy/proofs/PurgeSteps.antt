@@ -184,29 +184,29 @@ unpurged_by old at to (e ∷ f ∷ es) order elsewhere leads few = absurd (omega
 
 module _ {L C M K : Type 0} (before after : PurgerState) (old new : Calls M K C) (phase : Phase L C)
   where
-  -- a turn that stood elsewhere asked the purger nothing
-  pub asks_nothing : (at to : Station) → after ≡ before
-      → Accepts station.accepted (log_of old) at → (at ≡ station.purged → ⊥)
-      → Accepts station.accepted (log_of new) to
-      → IsFrontOf (log_of old) (log_of new) → length (log_of new) ≤ 1 + length (log_of old)
-      → AsksPurger before after (log_of old) (log_of new) phase
-  asks_nothing at to same order elsewhere leads front once =
-      AsksPurger.nothing same
-      (ap (λ (l : List LogEntry). purges_in l) (sym front.joined)
-      ∙ unpurged_by (log_of old) at to front.rest order elsewhere
-      (subst (λ (l : List LogEntry). Accepts station.accepted l to) (sym front.joined) leads)
-      (omega (
-        arith,
-        once,
-        ap (λ (l : List LogEntry). length l) front.joined,
-        length-append (log_of old) front.rest,
-      )))
+    -- a turn that stood elsewhere asked the purger nothing
+    pub asks_nothing : (at to : Station) → after ≡ before
+        → Accepts station.accepted (log_of old) at → (at ≡ station.purged → ⊥)
+        → Accepts station.accepted (log_of new) to
+        → IsFrontOf (log_of old) (log_of new) → length (log_of new) ≤ 1 + length (log_of old)
+        → AsksPurger before after (log_of old) (log_of new) phase
+    asks_nothing at to same order elsewhere leads front once =
+        AsksPurger.nothing same
+        (ap (λ (l : List LogEntry). purges_in l) (sym front.joined)
+        ∙ unpurged_by (log_of old) at to front.rest order elsewhere
+        (subst (λ (l : List LogEntry). Accepts station.accepted l to) (sym front.joined) leads)
+        (omega (
+          arith,
+          once,
+          ap (λ (l : List LogEntry). length l) front.joined,
+          length-append (log_of old) front.rest,
+        )))
 
-  -- one without a call asked nothing
-  pub asks_still : after ≡ before → log_of new ≡ log_of old
-      → AsksPurger before after (log_of old) (log_of new) phase
-  asks_still same log =
-      AsksPurger.nothing same (ap (λ (l : List LogEntry). purges_in l) log)
+    -- one without a call asked nothing
+    pub asks_still : after ≡ before → log_of new ≡ log_of old
+        → AsksPurger before after (log_of old) (log_of new) phase
+    asks_still same log =
+        AsksPurger.nothing same (ap (λ (l : List LogEntry). purges_in l) log)
 
 -- ---- where a request stands
 
@@ -341,171 +341,171 @@ module _ {C M K : Type 0} (allows : Standing → LogEntry → Type 0) (mark_of :
     (old new : Calls M K C) (context context' : C) (client left : HttpSession)
     (action : PurgeAction) (asked told : PurgerState) (is : purge_at old.at ≡ Some action)
   where
-  -- the purger was asked, and its answer told to the filter
-  abbrev pub IsPurged : End → Type 0
-  IsPurged how =
-      PurgesOnce allows action asked told (seen_with old client) (mark_of context)
-      (seen_with new left) (mark_of context') how
+    -- the purger was asked, and its answer told to the filter
+    abbrev pub IsPurged : End → Type 0
+    IsPurged how =
+        PurgesOnce allows action asked told (seen_with old client) (mark_of context)
+        (seen_with new left) (mark_of context') how
 
-  -- the same by how that ended
-  abbrev pub IsPurgedTo : End → Type 0
-  IsPurgedTo how =
-      PurgesTo allows action asked told (seen_with old client) (mark_of context)
-      (seen_with new left) (mark_of context') how
+    -- the same by how that ended
+    abbrev pub IsPurgedTo : End → Type 0
+    IsPurgedTo how =
+        PurgesTo allows action asked told (seen_with old client) (mark_of context)
+        (seen_with new left) (mark_of context') how
 
-  is_at : old.at ≡ at.Purging action
-  is_at = purging_of old.at action is
+    is_at : old.at ≡ at.Purging action
+    is_at = purging_of old.at action is
 
-  -- the last call had asked what the purge does
-  asks_for : (tries : List AttemptRecord) → IsOpening allows mark_of old context client tries
-      → LastAsks (log_of old) action (request_head (seen_with old client))
-  asks_for tries o =
-      subst (λ (a : At K C). TellsPeer a (log_of old) (request_head (seen_with old client))) is_at
-      o.named
+    -- the last call had asked what the purge does
+    asks_for : (tries : List AttemptRecord) → IsOpening allows mark_of old context client tries
+        → LastAsks (log_of old) action (request_head (seen_with old client))
+    asks_for tries o =
+        subst (λ (a : At K C). TellsPeer a (log_of old) (request_head (seen_with old client))) is_at
+        o.named
 
-  stood_at : (tries : List AttemptRecord) → IsOpening allows mark_of old context client tries
-      → Accepts station.accepted (log_of old) station.purged
-  stood_at tries o =
-      subst (λ (a : At K C). Accepts station.accepted (log_of old) (station_at a)) is_at o.order
+    stood_at : (tries : List AttemptRecord) → IsOpening allows mark_of old context client tries
+        → Accepts station.accepted (log_of old) station.purged
+    stood_at tries o =
+        subst (λ (a : At K C). Accepts station.accepted (log_of old) (station_at a)) is_at o.order
 
-  -- no end begins with that, no error is treated in it, and it tells of no attempt
-  pub purge_unended : (how : End) → IsPurgedTo how → IsUnended (log_of old)
-      → IsUnended (log_of new)
-  purge_unended end.Answered once none =
-      unended_more (log_of old) (log_of new) once.turn.e hook.PurgeResponseFilter
-      once.turn.calls.log once.turn.hook refl none
-  purge_unended (end.Unwritten why) once none =
-      unended_more (log_of old) (log_of new) once.turn.e hook.PurgeResponseFilter
-      once.turn.calls.log once.turn.hook refl none
-  purge_unended end.Lost same none = subst (λ (l : List LogEntry). IsUnended l) (sym same) none
+    -- no end begins with that, no error is treated in it, and it tells of no attempt
+    pub purge_unended : (how : End) → IsPurgedTo how → IsUnended (log_of old)
+        → IsUnended (log_of new)
+    purge_unended end.Answered once none =
+        unended_more (log_of old) (log_of new) once.turn.e hook.PurgeResponseFilter
+        once.turn.calls.log once.turn.hook refl none
+    purge_unended (end.Unwritten why) once none =
+        unended_more (log_of old) (log_of new) once.turn.e hook.PurgeResponseFilter
+        once.turn.calls.log once.turn.hook refl none
+    purge_unended end.Lost same none = subst (λ (l : List LogEntry). IsUnended l) (sym same) none
 
-  pub purge_untreated : IsPurged end.Answered → IsUntreated (log_of old)
-      → IsUntreated (log_of new)
-  purge_untreated once none =
-      untreated_more (log_of old) (log_of new) once.turn.e hook.PurgeResponseFilter
-      once.turn.calls.log once.turn.hook refl none
+    pub purge_untreated : IsPurged end.Answered → IsUntreated (log_of old)
+        → IsUntreated (log_of new)
+    purge_untreated once none =
+        untreated_more (log_of old) (log_of new) once.turn.e hook.PurgeResponseFilter
+        once.turn.calls.log once.turn.hook refl none
 
-  pub purge_refusals : (how : End) → IsPurgedTo how
-      → refusals_in (log_of new) ≡ refusals_in (log_of old)
-  purge_refusals end.Answered once =
-      ap (λ (l : List LogEntry). refusals_in l) once.turn.calls.log
-      ∙ refusals_still (log_of old) once.turn.e hook.PurgeResponseFilter once.turn.hook refl
-  purge_refusals (end.Unwritten why) once =
-      ap (λ (l : List LogEntry). refusals_in l) once.turn.calls.log
-      ∙ refusals_still (log_of old) once.turn.e hook.PurgeResponseFilter once.turn.hook refl
-  purge_refusals end.Lost same = ap (λ (l : List LogEntry). refusals_in l) same
+    pub purge_refusals : (how : End) → IsPurgedTo how
+        → refusals_in (log_of new) ≡ refusals_in (log_of old)
+    purge_refusals end.Answered once =
+        ap (λ (l : List LogEntry). refusals_in l) once.turn.calls.log
+        ∙ refusals_still (log_of old) once.turn.e hook.PurgeResponseFilter once.turn.hook refl
+    purge_refusals (end.Unwritten why) once =
+        ap (λ (l : List LogEntry). refusals_in l) once.turn.calls.log
+        ∙ refusals_still (log_of old) once.turn.e hook.PurgeResponseFilter once.turn.hook refl
+    purge_refusals end.Lost same = ap (λ (l : List LogEntry). refusals_in l) same
 
-  -- out of memory there is an entry more or none, and none is counted
-  pub purge_memory : (how : End) → IsPurgedTo how → (work : Work) → work.called ≡ 0
-      → CountsCalls old new work
-  purge_memory end.Answered once work none =
-      one_called old new work (omega (arith, none)) once.turn.e once.turn.calls.log
-  purge_memory (end.Unwritten why) once work none =
-      one_called old new work (omega (arith, none)) once.turn.e once.turn.calls.log
-  purge_memory end.Lost same work none = none_called old new work none same
+    -- out of memory there is an entry more or none, and none is counted
+    pub purge_memory : (how : End) → IsPurgedTo how → (work : Work) → work.called ≡ 0
+        → CountsCalls old new work
+    purge_memory end.Answered once work none =
+        one_called old new work (omega (arith, none)) once.turn.e once.turn.calls.log
+    purge_memory (end.Unwritten why) once work none =
+        one_called old new work (omega (arith, none)) once.turn.e once.turn.calls.log
+    purge_memory end.Lost same work none = none_called old new work none same
 
-  -- and the log is in order still
-  purge_order : (how : End) → IsPurged how → (tries : List AttemptRecord)
-      → IsOpening allows mark_of old context client tries → IsLogged allows (log_of new)
-      station.answered
-  purge_order how once tries o = record {
-    from = o.from;
-    to = _;
-    walks = walks_more allows mark_of old new context context' client left o.from once.turn.e
-        once.turn.calls o.walks;
-    order = order_more old new station.purged station.answered once.turn.e once.turn.calls.log
-        once.turn.order (stood_at tries o);
-  }
+    -- and the log is in order still
+    purge_order : (how : End) → IsPurged how → (tries : List AttemptRecord)
+        → IsOpening allows mark_of old context client tries → IsLogged allows (log_of new)
+        station.answered
+    purge_order how once tries o = record {
+      from = o.from;
+      to = _;
+      walks = walks_more allows mark_of old new context context' client left o.from once.turn.e
+          once.turn.calls o.walks;
+      order = order_more old new station.purged station.answered once.turn.e once.turn.calls.log
+          once.turn.order (stood_at tries o);
+    }
 
-  pub purge_logged : (how : End) → IsPurgedTo how → (tries : List AttemptRecord)
-      → IsOpening allows mark_of old context client tries
-      → (to : Station) × IsLogged allows (log_of new) to
-  purge_logged end.Answered once tries o = (station.answered, purge_order end.Answered once tries o)
-  purge_logged (end.Unwritten why) once tries o =
-      (station.answered, purge_order (end.Unwritten why) once tries o)
-  purge_logged end.Lost same tries o = logged_same allows mark_of old new context client tries same o
+    pub purge_logged : (how : End) → IsPurgedTo how → (tries : List AttemptRecord)
+        → IsOpening allows mark_of old context client tries
+        → (to : Station) × IsLogged allows (log_of new) to
+    purge_logged end.Answered once tries o = (station.answered, purge_order end.Answered once tries o)
+    purge_logged (end.Unwritten why) once tries o =
+        (station.answered, purge_order (end.Unwritten why) once tries o)
+    purge_logged end.Lost same tries o = logged_same allows mark_of old new context client tries same o
 
-  -- its answer is owed, and the end of the request begins behind that
-  pub purge_owing : IsPurged end.Answered → (tries : List AttemptRecord)
-      → IsOpening allows mark_of old context client tries
-      → IsOwing allows mark_of (record new { at = at.Closing context' (begun None) }) left
-      (owing.Ahead None)
-  purge_owing once tries o =
-      let logged = purge_order end.Answered once tries o in
-      let unended : IsUnended (log_of new) = purge_unended end.Answered once o.unended in (
+    -- its answer is owed, and the end of the request begins behind that
+    pub purge_owing : IsPurged end.Answered → (tries : List AttemptRecord)
+        → IsOpening allows mark_of old context client tries
+        → IsOwing allows mark_of (record new { at = at.Closing context' (begun None) }) left
+        (owing.Ahead None)
+    purge_owing once tries o =
+        let logged = purge_order end.Answered once tries o in
+        let unended : IsUnended (log_of new) = purge_unended end.Answered once o.unended in (
+          record {
+            from = o.from;
+            walks = walks_more allows mark_of old new context context' client left o.from once.turn.e
+                once.turn.calls o.walks;
+            start = station.answered;
+            begins = refl;
+            order = logged.order;
+            logged = unended_unlogged (log_of new) unended;
+            alive = unlogged_alive (log_of new) (unended_unlogged (log_of new) unended);
+            begun = unended;
+            error_is = refl;
+          },
+          (logged.order, unended),
+        )
+
+    -- what waits for the client is the text of its answer
+    pub record PurgeLeaves (s : Start) (p : Passed) : Type 0 where
+      pub text : List ℕ
+      pub is_open : left.writing.output ≡ outgoing.Open text
+      pub owed : IsOwedAhead (opened_to s (log_of new)) p None text
+      pub tells : s.tried ≡ [] → TellsAgain owed left
+
+    pub purge_leaves : IsPurged end.Answered → (s : Start) (p : Passed) (w : World)
+        (tries : List AttemptRecord) → IsOpening allows mark_of old context client tries
+        → IsConnecting (opened_to s (log_of old)) p w client tries → PurgeLeaves s p
+    purge_leaves once s p w tries o k =
+        let queued : AreQueued client.writing (lone_head once.head) left.writing =
+        once.turn.queued.queued in
+        let waits : IsOpen left.writing.output =
+        (_, ap (λ (x : Writing). x.output) queued.grows.grown) in
+        let answers = purge_answers allows old new client left (mark_of context) (mark_of context')
+        action asked told s p w tries waits.0 once (purge_order end.Answered once tries o).order
+        waits.1 k in
         record {
-          from = o.from;
-          walks = walks_more allows mark_of old new context context' client left o.from once.turn.e
-              once.turn.calls o.walks;
-          start = station.answered;
-          begins = refl;
-          order = logged.order;
-          logged = unended_unlogged (log_of new) unended;
-          alive = unlogged_alive (log_of new) (unended_unlogged (log_of new) unended);
-          begun = unended;
-          error_is = refl;
-        },
-        (logged.order, unended),
-      )
+          text = waits.0;
+          is_open = waits.1;
+          owed = answers.owed;
+          tells = answers.tells;
+        }
 
-  -- what waits for the client is the text of its answer
-  pub record PurgeLeaves (s : Start) (p : Passed) : Type 0 where
-    pub text : List ℕ
-    pub is_open : left.writing.output ≡ outgoing.Open text
-    pub owed : IsOwedAhead (opened_to s (log_of new)) p None text
-    pub tells : s.tried ≡ [] → TellsAgain owed left
+    -- ---- what the purger was asked
 
-  pub purge_leaves : IsPurged end.Answered → (s : Start) (p : Passed) (w : World)
-      (tries : List AttemptRecord) → IsOpening allows mark_of old context client tries
-      → IsConnecting (opened_to s (log_of old)) p w client tries → PurgeLeaves s p
-  purge_leaves once s p w tries o k =
-      let queued : AreQueued client.writing (lone_head once.head) left.writing =
-      once.turn.queued.queued in
-      let waits : IsOpen left.writing.output =
-      (_, ap (λ (x : Writing). x.output) queued.grows.grown) in
-      let answers = purge_answers allows old new client left (mark_of context) (mark_of context')
-      action asked told s p w tries waits.0 once (purge_order end.Answered once tries o).order
-      waits.1 k in
-      record {
-        text = waits.0;
-        is_open = waits.1;
-        owed = answers.owed;
-        tells = answers.tells;
-      }
+    -- the call of which the log tells now
+    pub asks_once : {L : Type 0} (how : End) → IsPurged how → (tries : List AttemptRecord)
+        → IsOpening allows mark_of old context client tries → (phase : Phase L C)
+        → AsksPurger asked told (log_of old) (log_of new) phase
+    asks_once how once tries o phase =
+        let last = asks_for tries o in
+        let head = request_head (seen_with old client) in
+        let answer = purged_of once.status in
+        AsksPurger.once action head once.status once.asks
+        (ap (λ (l : List LogEntry). purges_in l) once.turn.calls.log
+        ∙ ap (λ (l : List LogEntry). purges_in (l ++ once.turn.e ∷ [])) last.is_last
+        ∙ purges_append last.before last.last once.turn.e
+        ∙ ap (λ (l : List PurgeCall). purges_in (last.before ++ last.last ∷ []) ++ l)
+        (told_by last.last once.turn.e action head answer last.input last.output once.turn.hook
+        once.input)
+        ∙ ap (λ (l : List LogEntry). purges_in l ++ call_for action head answer ∷ [])
+        (sym last.is_last))
 
-  -- ---- what the purger was asked
-
-  -- the call of which the log tells now
-  pub asks_once : {L : Type 0} (how : End) → IsPurged how → (tries : List AttemptRecord)
-      → IsOpening allows mark_of old context client tries → (phase : Phase L C)
-      → AsksPurger asked told (log_of old) (log_of new) phase
-  asks_once how once tries o phase =
-      let last = asks_for tries o in
-      let head = request_head (seen_with old client) in
-      let answer = purged_of once.status in
-      AsksPurger.once action head once.status once.asks
-      (ap (λ (l : List LogEntry). purges_in l) once.turn.calls.log
-      ∙ ap (λ (l : List LogEntry). purges_in (l ++ once.turn.e ∷ [])) last.is_last
-      ∙ purges_append last.before last.last once.turn.e
-      ∙ ap (λ (l : List PurgeCall). purges_in (last.before ++ last.last ∷ []) ++ l)
-      (told_by last.last once.turn.e action head answer last.input last.output once.turn.hook
-      once.input)
-      ∙ ap (λ (l : List LogEntry). purges_in l ++ call_for action head answer ∷ [])
-      (sym last.is_last))
-
-  -- or, where memory was wanted, maybe one of which it does not tell
-  pub asks_lost : {L : Type 0} (how : End) → IsPurgedTo how
-      → (told ≡ asked) ⊎ IsAsked asked action (seen_with old client) told
-      → (tries : List AttemptRecord) → IsOpening allows mark_of old context client tries
-      → (phase : Phase L C) → HasLost phase → AsksPurger asked told (log_of old) (log_of new) phase
-  asks_lost end.Answered once may tries o phase lost = asks_once end.Answered once tries o phase
-  asks_lost (end.Unwritten why) once may tries o phase lost =
-      asks_once (end.Unwritten why) once tries o phase
-  asks_lost end.Lost same (inl none) tries o phase lost =
-      AsksPurger.nothing none (ap (λ (l : List LogEntry). purges_in l) same)
-  asks_lost end.Lost same (inr (answer, asks)) tries o phase lost =
-      AsksPurger.lost action (request_head (seen_with old client)) answer asks (asks_for tries o)
-      same lost
+    -- or, where memory was wanted, maybe one of which it does not tell
+    pub asks_lost : {L : Type 0} (how : End) → IsPurgedTo how
+        → (told ≡ asked) ⊎ IsAsked asked action (seen_with old client) told
+        → (tries : List AttemptRecord) → IsOpening allows mark_of old context client tries
+        → (phase : Phase L C) → HasLost phase → AsksPurger asked told (log_of old) (log_of new) phase
+    asks_lost end.Answered once may tries o phase lost = asks_once end.Answered once tries o phase
+    asks_lost (end.Unwritten why) once may tries o phase lost =
+        asks_once (end.Unwritten why) once tries o phase
+    asks_lost end.Lost same (inl none) tries o phase lost =
+        AsksPurger.nothing none (ap (λ (l : List LogEntry). purges_in l) same)
+    asks_lost end.Lost same (inr (answer, asks)) tries o phase lost =
+        AsksPurger.lost action (request_head (seen_with old client)) answer asks (asks_for tries o)
+        same lost
 
 -- ---- over the steps of a request
 
@@ -579,15 +579,18 @@ module _ (first asked told : PurgerState) (log : List LogEntry)
       → LastAsks log action head → new ≡ log → came ≡ outcome.OutOfMemory
       → HasPurged first told new came
   one_more new came action head answer tells last same is =
-      inr (is, record {
-        action = action;
-        head = head;
-        answer = answer;
-        asks = subst (λ (l : List LogEntry). LastAsks l action head) (sym same) last;
-        told = joined (call_for action head answer ∷ []) tells
-            ∙ ap (λ (l : List LogEntry).
-            more first.told (purges_in l ++ call_for action head answer ∷ [])) (sym same);
-      })
+      inr (
+        is,
+        record {
+          action = action;
+          head = head;
+          answer = answer;
+          asks = subst (λ (l : List LogEntry). LastAsks l action head) (sym same) last;
+          told = joined (call_for action head answer ∷ []) tells
+              ∙ ap (λ (l : List LogEntry).
+              more first.told (purges_in l ++ call_for action head answer ∷ [])) (sym same);
+        },
+      )
 
   purged_lost : (new : List LogEntry) (came : Outcome) (action : PurgeAction)
       (head : RequestHead) (answer : Purged) → Asks asked action head told answer

@@ -36,14 +36,7 @@ use std::mem;
 /// it, one verdict on a head, or one branch of the duplex. A request makes `most` attempts at most, and as it began, `first` calls of
 /// the client's link had failed. A phase that relays is turned where it stands, since it has the
 /// most turns.
-pub(crate) fn take_turn<
-    SV: ProxyHttp,
-    K: Connector,
-    P: Purger,
-    D: ByteLink,
-    U: Drop,
-    H: Schedule,
->(
+pub(crate) fn take_turn<SV: ProxyHttp, K: Connector, P: Purger, D: ByteLink, U: Drop, H: Schedule>(
     alloc: Global,
     hooks: &SV,
     connector: &mut K,
