@@ -38,14 +38,13 @@ use Rattle.relay_phases.specs.Turns.{CallsOnce, HasCalled, QueuesNothing, Turns}
 use Rattle.relay_phases.proofs.OrderLemmas.{Accepts-one}
 use Rattle.relay_opening.specs.Place.{TurnAllows}
 use Rattle.relay_opening.specs.declared.place.Called.TheVariants as called
-use Rattle.relay_opening.specs.declared.place.End.{End}
 use Rattle.relay_opening.specs.declared.place.End.TheVariants as end
 use Rattle.relay_opening.specs.declared.place.Place.{Place}
 use Rattle.relay_opening.specs.declared.place.Place.TheVariants as place
 use Rattle.relay_trying.specs.Trying as leads
 use Rattle.relay_trying.specs.Trying.{Treats, may_break, may_follow}
 use Rattle.relay_closing.specs.Place.{may_fail}
-use Rattle.relay_proxy.specs.Calls.{BeginsCalls, BreaksAt, CallsNext, CallsSoFar, CountsCalls, GoesOn, HasBegun, HasCome, IsTreatedBefore, IsBreaking, IsLogged, IsOpening, IsOwing, IsRelayingCalls, IsUncalled, IsUncalledEnd, IsUncalledFor, IsUnended, TakesNext, TellsPeer, is_before, is_calling, leads_at, log_of, seen_with, station_at, treated_at}
+use Rattle.relay_proxy.specs.Calls.{BeginsCalls, BreaksAt, CallsNext, CallsSoFar, CountsCalls, GoesOn, HasBegun, HasCome, IsTreatedBefore, IsBreaking, IsLogged, IsOpening, IsOwing, IsRelayingCalls, IsUncalled, IsUncalledEnd, IsUncalledFor, IsUnended, TakesNext, TellsPeer, is_before, leads_at, log_of, seen_with, station_at, treated_at}
 use Rattle.relay_proxy.specs.Closing.{Settles}
 use Rattle.relay_proxy.specs.Passed.{begins_end}
 use Rattle.relay_proxy.specs.Sent.{IsTreated, IsUntreated, is_of}

@@ -14,13 +14,8 @@ use Rattle.relay_tasks.specs.declared.Peer.{Peer}
 use Rattle.relay_tasks.specs.declared.hook.Hook.{Hook}
 use Rattle.relay_tasks.specs.declared.hook.Hook.TheVariants as hook
 use Rattle.relay_tasks.specs.declared.log.LogEntry.{LogEntry}
-use Rattle.relay_session.specs.Asked.{request_of}
 use Rattle.relay_session.specs.Response.{IsOpen, has_head}
 use Rattle.relay_session.specs.declared.session.HttpSession.{HttpSession}
-use Rattle.relay_session.specs.declared.task_text.Place as stage
-use Rattle.relay_session.specs.declared.task_text.Place.TheVariants as stands
-use Rattle.relay_session.specs.declared.task_text.Request.{Request}
-use Rattle.relay_session.specs.declared.writing.Outgoing.{Outgoing}
 use Rattle.relay_session.specs.declared.writing.Outgoing.TheVariants as outgoing
 use Rattle.relay_session.specs.declared.writing.Writing.{Writing}
 use Rattle.relay_hooks.specs.Session.{request_head}
@@ -39,10 +34,9 @@ use Rattle.relay_opening.specs.declared.place.End.TheVariants as end
 use Rattle.relay_opening.proofs.QueuedLemmas.{end_open}
 use Rattle.relay_attempt.specs.Passed.{Passed}
 use Rattle.relay_proxy.specs.Ahead.{IsOwedAhead, LastFails}
-use Rattle.relay_proxy.specs.Calls.{CallsNext, CountsCalls, EndsBy, Goes, GoesOn, IsLogged, IsOpening, IsOwing, IsUnended, TakesNext, TellsError, TellsPeer, comes_next, failed_at, final_at, is_before, leads_at, leads_to, log_of, place_station, seen_with, station_at}
+use Rattle.relay_proxy.specs.Calls.{CallsNext, CountsCalls, Goes, GoesOn, IsLogged, IsOpening, IsOwing, IsUnended, TakesNext, TellsError, TellsPeer, comes_next, failed_at, final_at, is_before, leads_at, leads_to, log_of, place_station, seen_with, station_at}
 use Rattle.relay_proxy.specs.Passed.{Start, World, begins_end, opened_to}
 use Rattle.relay_proxy.specs.Phases.{IsConnecting}
-use Rattle.relay_proxy.specs.Relayable.{IsAccepted}
 use Rattle.relay_proxy.specs.Sent.{IsUntreated}
 use Rattle.relay_proxy.specs.Tries.{refusals_in}
 use Rattle.relay_closing.specs.Place.{begun}
@@ -58,7 +52,7 @@ use Rattle.relay_proxy.specs.declared.work.Work.{Work}
 use Rattle.relay_proxy.proofs.CallLemmas.{logged_more, logged_same, none_called, one_called, order_more, walks_more}
 use Rattle.relay_proxy.proofs.LastCalls.{unended_unlogged, unlogged_alive}
 use Rattle.relay_proxy.proofs.NamedLemmas.{refusals_still}
-use Rattle.relay_proxy.proofs.OpenSteps.{AnswersAs, called_accepted, hooks_answer, stands_first, stays_connecting}
+use Rattle.relay_proxy.proofs.OpenSteps.{AnswersAs, hooks_answer, stays_connecting}
 use Rattle.relay_proxy.proofs.TreatLemmas.{unended_more, untreated_more}
 
 -- the hooks are over so, where they answered the request

@@ -6,12 +6,11 @@
 --   purge_leaves                   what waits for the client
 --   settled_purger .. purged_end   over the steps of a request
 use Rattle.std.proofs.Common.{◌≡◌, ◌⊎◌, ℕ, ◌+◌, ◌≤◌, Bool, true, false, List, [], ◌∷◌, ◌++◌, length, length-append, append-nil, append_assoc, Option, None, Some, refl, sym, ap, subst, ◌∙◌, arith, true≢false, inl, inr}
-use Rattle.std.specs.Prelude.{◌==◌, IsTrue, map, option_map, if◌then◌else◌}
+use Rattle.std.specs.Prelude.{IsTrue, if◌then◌else◌}
 use Rattle.std.proofs.lemmas.Bool.{eqb-true}
 use Rattle.relay_tasks.specs.Head.{RequestHead}
 use Rattle.relay_tasks.specs.Hooks.{number_of, same_hook}
 use Rattle.relay_tasks.specs.declared.Error.{Error}
-use Rattle.relay_tasks.specs.declared.hook.Hook.{Hook}
 use Rattle.relay_tasks.specs.declared.hook.Hook.TheVariants as hook
 use Rattle.relay_tasks.specs.declared.log.Item.TheVariants as item
 use Rattle.relay_tasks.specs.declared.log.LogEntry.{LogEntry}
@@ -33,7 +32,6 @@ use Rattle.relay_hooks.specs.declared.purge.PurgeStatus.{PurgeStatus}
 use Rattle.relay_hooks.specs.declared.purge.PurgeStatus.TheVariants as status
 use Rattle.relay_phases.specs.Order.{Accepts, Station, next, next_behind}
 use Rattle.relay_phases.specs.Order.{Station as station}
-use Rattle.relay_phases.specs.Turns.{Turns}
 use Rattle.relay_phases.proofs.OrderLemmas.{next_behind-append}
 use Rattle.relay_peer.specs.Body.{IsFrontOf}
 use Rattle.relay_purging.specs.Asked.{Asks, IsAsked}
@@ -50,7 +48,7 @@ use Rattle.relay_closing.specs.declared.place.Place.TheVariants as closing
 use Rattle.relay_closing.specs.declared.place.Stage.{Stage}
 use Rattle.relay_closing.specs.declared.place.Stage.TheVariants as stage
 use Rattle.relay_attempt.specs.Passed.{Passed}
-use Rattle.relay_opening.specs.Place.{end_station, station_of}
+use Rattle.relay_opening.specs.Place.{station_of}
 use Rattle.relay_opening.specs.declared.place.Called.{Called}
 use Rattle.relay_opening.specs.declared.place.Called.TheVariants as called
 use Rattle.relay_opening.specs.declared.place.End.TheVariants as ended
@@ -58,13 +56,13 @@ use Rattle.relay_opening.specs.declared.place.Place.{Place}
 use Rattle.relay_opening.specs.declared.place.Place.TheVariants as place
 use Rattle.relay_trying.specs.Trying.{may_break}
 use Rattle.relay_proxy.specs.Ahead.{IsOwedAhead}
-use Rattle.relay_proxy.specs.Calls.{BreaksAt, CallsSoFar, CountsCalls, IsLogged, IsOpening, IsOwing, IsUnended, LastAsks, StandsBy, TellsPeer, final_at, is_before, log_of, place_station, purge_at, seen_with, station_at}
+use Rattle.relay_proxy.specs.Calls.{BreaksAt, CountsCalls, IsLogged, IsOpening, IsOwing, IsUnended, LastAsks, StandsBy, TellsPeer, final_at, is_before, log_of, place_station, purge_at, seen_with, station_at}
 use Rattle.relay_proxy.specs.Closing.{Settles}
 use Rattle.relay_proxy.specs.ClosingHooks.{calls_next}
 use Rattle.relay_proxy.specs.Owed.{TellsAgain}
 use Rattle.relay_proxy.specs.Passed.{Start, World, opened_to}
 use Rattle.relay_proxy.specs.Phases.{IsConnecting}
-use Rattle.relay_proxy.specs.Purging.{AsksPurger, HasLost, HasPurged, PurgesMore}
+use Rattle.relay_proxy.specs.Purging.{AsksPurger, HasLost, HasPurged}
 use Rattle.relay_proxy.specs.Request.{is_done}
 use Rattle.relay_proxy.specs.Sent.{IsUntreated}
 use Rattle.relay_proxy.specs.Tries.{refusals_in}
@@ -72,13 +70,12 @@ use Rattle.relay_proxy.specs.declared.calls.At.{At}
 use Rattle.relay_proxy.specs.declared.calls.At.TheVariants as at
 use Rattle.relay_proxy.specs.declared.calls.Calls.{Calls}
 use Rattle.relay_proxy.specs.declared.machine.Phase.{Phase}
-use Rattle.relay_proxy.specs.declared.machine.Phase.TheVariants.{Ended}
 use Rattle.relay_proxy.specs.declared.outcome.Outcome.{Outcome}
 use Rattle.relay_proxy.specs.declared.outcome.Outcome.TheVariants as outcome
 use Rattle.relay_proxy.specs.declared.owed.Owed.TheVariants as owing
 use Rattle.relay_proxy.specs.declared.record.AttemptRecord.{AttemptRecord}
 use Rattle.relay_proxy.specs.declared.work.Work.{Work}
-use Rattle.relay_proxy.proofs.CallLemmas.{logged_more, logged_same, none_called, one_called, order_more, walks_more}
+use Rattle.relay_proxy.proofs.CallLemmas.{logged_same, none_called, one_called, order_more, walks_more}
 use Rattle.relay_proxy.proofs.LastCalls.{unended_unlogged, unlogged_alive}
 use Rattle.relay_proxy.proofs.NamedLemmas.{refusals_still}
 use Rattle.relay_proxy.proofs.OpenSteps.{purge_answers}

@@ -9,7 +9,6 @@ use Rattle.relay_modules.specs.Module.{AllowsMade, ModuleCall}
 use Rattle.relay_hooks.specs.Call.{only}
 use Rattle.relay_hooks.specs.Session.{request_head}
 use Rattle.relay_opening.specs.Place.{next_hook}
-use Rattle.relay_opening.specs.declared.place.End.TheVariants as end
 use Rattle.relay_opening.specs.declared.place.Place.TheVariants as place
 use Rattle.relay_opening.proofs.WiderLemmas.{IsAllowed-wider, TurnsOn-wider}
 use Rattle.relay_phases.specs.Order.{Station as station}
@@ -17,7 +16,6 @@ use Rattle.relay_trying.specs.Trying.{warned_at}
 use Rattle.relay_trying.proofs.WithinLemmas.{LooksOnce-within, NamesPeer-within}
 use Rattle.relay_proxy.specs.Calls.{TakesNext}
 use Rattle.relay_proxy.specs.Named.{peer_in}
-use Rattle.relay_proxy.specs.declared.calls.At.TheVariants as at
 use Rattle.relay_proxy.proofs.BesideLemmas.{asks_beside}
 use Rattle.relay_proxy.proofs.CallLemmas.{turn_allowed}
 use Rattle.relay_proxy.proofs.NamedLemmas.{names_one, peer_last}

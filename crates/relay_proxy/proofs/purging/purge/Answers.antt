@@ -4,7 +4,6 @@ use Rattle.relay_tasks.specs.declared.log.LogEntry.{LogEntry}
 use Rattle.relay_proxy.specs.Calls.{IsOwing, IsUnended, allowed_by, log_of}
 use Rattle.relay_proxy.specs.Passed.{opened_to}
 use Rattle.relay_proxy.specs.Purging.{AsksPurger}
-use Rattle.relay_proxy.specs.Tries.{refusals_in}
 use Rattle.relay_proxy.specs.Turn.{Advances}
 use Rattle.relay_proxy.specs.declared.calls.Calls.{Calls}
 use Rattle.relay_proxy.specs.declared.owed.Owed.TheVariants as owing
