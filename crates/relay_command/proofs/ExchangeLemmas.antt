@@ -245,7 +245,6 @@ clear_again s p w [] records (ended.Served None reuse) ends back =
     clear (IsOwedAhead.by_answer head tasks text accepted order is_answer is) may =
         may.nothing_ahead
     clear (IsOwedAhead.by_error head e text accepted stopped told is) may = absurd may
-    clear (IsOwedAhead.by_purge head e text accepted order same is) may = absurd may
 clear_again s p w [] records (ended.Served (Some e) reuse) ends back =
     absurd (true≢false (sym back ∙ ends.0.1))
 clear_again s p w (r ∷ []) records (ended.Served None reuse) ends back = clear ends.ends back

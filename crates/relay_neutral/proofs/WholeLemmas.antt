@@ -56,8 +56,6 @@ never_owed s p why text (IsOwedAhead.by_error head e t has stops told is) all =
     ∙ stops.fails.error in
     cc
     )
-never_owed s p why text (IsOwedAhead.by_purge head e t has order same is) all =
-    never_ends s.called station.purging all order refl
 
 -- no hook ended the request before its attempts
 pub neutral_passes : {head : RequestHead} (s : Start) (p : Passed) (w : World) (told : Option Error)

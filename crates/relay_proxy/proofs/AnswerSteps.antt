@@ -260,7 +260,6 @@ pub owed_head : {s : Start} {p : Passed} (why : Option Error) (text : List ℕ)
 owed_head why text (IsOwedAhead.by_answer head tasks t has order is_answer is) =
     (head, has)
 owed_head why text (IsOwedAhead.by_error head e t has stopped told is) = (head, has)
-owed_head why text (IsOwedAhead.by_purge head e t has order same is) = (head, has)
 
 -- what hooks owe does not depend on what was written
 abbrev ahead_on : (s : Start) (p : Passed) (written : List ℕ) (why : Option Error) (text : List ℕ)
@@ -282,14 +281,6 @@ ahead_on s p written why text (IsOwedAhead.by_error head e t has stopped told is
       has = has.has;
       relayable = has.relayable;
     }) stopped told is
-ahead_on s p written why text (IsOwedAhead.by_purge head e t has order same is) =
-    IsOwedAhead.by_purge head e t
-    (record {
-      framing = has.framing;
-      len = has.len;
-      has = has.has;
-      relayable = has.relayable;
-    }) order same is
 
 -- ---- whether the client may ask for more
 
@@ -305,9 +296,6 @@ tells_as written why text (IsOwedAhead.by_answer head tasks t has order is_answe
       closes = ap (λ (h : HttpSession). h.writing.closes) same ∙ tells.closes;
     }
 tells_as written why text (IsOwedAhead.by_error head e t has stopped told is) session session' same
-    tells =
-    tt
-tells_as written why text (IsOwedAhead.by_purge head e t has order because is) session session' same
     tells =
     tt
 

@@ -28,7 +28,7 @@ use Rattle.relay_session.specs.declared.session.HttpSession.{HttpSession}
 use Rattle.relay_session.specs.declared.writing.Writing.{Writing}
 use Rattle.relay_modules.specs.Module.{ModuleCall}
 use Rattle.relay_modules.specs.declared.seen.Seen.{Seen}
-use Rattle.relay_hooks.specs.Session.{moment}
+use Rattle.relay_hooks.specs.Session.{moment, request_head}
 use Rattle.relay_hooks.specs.Standing.{Standing, standing}
 use Rattle.relay_calls.specs.Log.{Views, Walk}
 use Rattle.relay_calls.proofs.LogLemmas.{Walk-append}
@@ -38,14 +38,13 @@ use Rattle.relay_phases.specs.Turns.{CallsOnce, HasCalled, QueuesNothing, Turns}
 use Rattle.relay_phases.proofs.OrderLemmas.{Accepts-one}
 use Rattle.relay_opening.specs.Place.{TurnAllows}
 use Rattle.relay_opening.specs.declared.place.Called.TheVariants as called
-use Rattle.relay_opening.specs.declared.place.End.{End}
 use Rattle.relay_opening.specs.declared.place.End.TheVariants as end
 use Rattle.relay_opening.specs.declared.place.Place.{Place}
 use Rattle.relay_opening.specs.declared.place.Place.TheVariants as place
 use Rattle.relay_trying.specs.Trying as leads
 use Rattle.relay_trying.specs.Trying.{Treats, may_break, may_follow}
 use Rattle.relay_closing.specs.Place.{may_fail}
-use Rattle.relay_proxy.specs.Calls.{BeginsCalls, BreaksAt, CallsNext, CallsSoFar, CountsCalls, GoesOn, HasBegun, HasCome, IsTreatedBefore, IsBreaking, IsLogged, IsOpening, IsOwing, IsRelayingCalls, IsUncalled, IsUncalledEnd, IsUncalledFor, IsUnended, TakesNext, TellsPeer, is_before, is_calling, leads_at, log_of, seen_with, station_at, treated_at}
+use Rattle.relay_proxy.specs.Calls.{BeginsCalls, BreaksAt, CallsNext, CallsSoFar, CountsCalls, GoesOn, HasBegun, HasCome, IsTreatedBefore, IsBreaking, IsLogged, IsOpening, IsOwing, IsRelayingCalls, IsUncalled, IsUncalledEnd, IsUncalledFor, IsUnended, TakesNext, TellsPeer, is_before, leads_at, log_of, seen_with, station_at, treated_at}
 use Rattle.relay_proxy.specs.Closing.{Settles}
 use Rattle.relay_proxy.specs.Passed.{begins_end}
 use Rattle.relay_proxy.specs.Sent.{IsTreated, IsUntreated, is_of}
@@ -79,16 +78,6 @@ turn_allowed allows (place.Behind called.Filtered) made call none = absurd none
 turn_allowed allows (place.Behind called.Sending) made call none = absurd none
 turn_allowed allows (place.Ended how) made call none = absurd none
 turn_allowed allows place.Lost made call none = absurd none
-
--- where the hooks before the attempts are over, a hook comes next only where they let it go
-pub calling_ended : (K : Type 0) (how : End)
-    → is_calling {K = K} {X = Unit {0}} (at.Opening (place.Ended how)) ≡ true → how ≡ end.Attempts
-calling_ended K end.Attempts calls = refl
-calling_ended K end.Answered calls = absurd (true≢false (sym calls))
-calling_ended K end.Purge calls = absurd (true≢false (sym calls))
-calling_ended K end.Declined calls = absurd (true≢false (sym calls))
-calling_ended K (end.Unwritten why) calls = absurd (true≢false (sym calls))
-calling_ended K (end.Failed error) calls = absurd (true≢false (sym calls))
 
 -- ---- logs
 
@@ -267,6 +256,7 @@ breaks_untreated : {K X : Type 0} (a : At K X) (log : List LogEntry) (error : Er
     → treated_at a ≡ None → IsTrue (may_break here) → BreaksAt a log error here
 breaks_untreated (at.Kept kept) log error here none may = may
 breaks_untreated (at.Opening there) log error here none may = may
+breaks_untreated (at.Purging action) log error here none may = may
 breaks_untreated (at.Named peer) log error here none may = may
 breaks_untreated (at.Repeatable treated) log error here none may = may
 breaks_untreated at.Warning log error here none may = may
@@ -279,6 +269,7 @@ pub may_treat : {K X : Type 0} (a : At K X) (log : List LogEntry) (error : Error
     → treated_at a ≡ None → BreaksAt a log error here → IsTrue (may_break here)
 may_treat (at.Kept kept) log error here none may = may
 may_treat (at.Opening there) log error here none may = may
+may_treat (at.Purging action) log error here none may = may
 may_treat (at.Named peer) log error here none may = may
 may_treat (at.Repeatable treated) log error here none may = may
 may_treat at.Warning log error here none may = may
@@ -307,6 +298,7 @@ pub was_treated : {K X : Type 0} (a : At K X) (log : List LogEntry) (error treat
     → IsTreated log error treated × IsTrue (may_fail here)
 was_treated (at.Kept kept) log error treated here is breaks = cc
 was_treated (at.Opening there) log error treated here is breaks = cc
+was_treated (at.Purging action) log error treated here is breaks = cc
 was_treated (at.Named peer) log error treated here is breaks = cc
 was_treated (at.Repeatable other) log error treated here is breaks = cc
 was_treated at.Warning log error treated here is breaks = cc
@@ -531,6 +523,8 @@ module _ {C M K : Type 0} (allows : Standing → LogEntry → Type 0) (mark_of :
       (seen_with c client) (mark_of context) (seen_with d left) (mark_of context')
   repeats_turn c d context context' client left treated
       (TakesNext.leads before which comes there to turn) goes = absurd (true≢false (sym before))
+  repeats_turn c d context context' client left treated (TakesNext.asks t) goes =
+      let clash : at.Repeatable treated ≡ at.Opening (place.Ended end.Purge) = t.is_here in cc
   repeats_turn c d context context' client left treated (TakesNext.tried t) goes =
       subst (λ (h : Hook). Turns allows h station.repeatable (station_at d.at) QueuesNothing
       (seen_with c client) (mark_of context) (seen_with d left) (mark_of context'))
@@ -550,6 +544,9 @@ module _ {C M K : Type 0} (allows : Standing → LogEntry → Type 0) (mark_of :
       → IsOpening allows mark_of d context' left tries × (is_before d.at ≡ false)
   repeats_calls c d context context' client left tries error treated is marked open_to kept
       (TakesNext.leads before which comes there to turn) goes b = absurd (true≢false (sym before))
+  repeats_calls c d context context' client left tries error treated is marked open_to kept
+      (TakesNext.asks t) goes b =
+      let clash : at.Repeatable treated ≡ at.Opening (place.Ended end.Purge) = t.is_here in cc
   repeats_calls c d context context' client left tries error treated is marked open_to kept
       (TakesNext.tried t) goes b =
       let turn = repeats_turn c d context context' client left treated (TakesNext.tried t) goes in
@@ -588,6 +585,9 @@ module _ {C M K : Type 0} (allows : Standing → LogEntry → Type 0) (mark_of :
   repeats_logged c d context context' client left error treated is marked open_to kept
       (TakesNext.leads before which comes there to turn) b = absurd (true≢false (sym before))
   repeats_logged c d context context' client left error treated is marked open_to kept
+      (TakesNext.asks t) b =
+      let clash : at.Repeatable treated ≡ at.Opening (place.Ended end.Purge) = t.is_here in cc
+  repeats_logged c d context context' client left error treated is marked open_to kept
       (TakesNext.tried t) b = (
         station_at d.at,
         record {
@@ -624,7 +624,8 @@ module _ {C M K : Type 0} (allows : Standing → LogEntry → Type 0) (mark_of :
             (subst (λ (l : List LogEntry). Accepts station.accepted l station.made) entries
             called.order);
         goes = subst (λ (a : At K C). GoesOn a) (sym begun.1) tt;
-        named = subst (λ (a : At K C). TellsPeer a (log_of d)) (sym begun.1) tt;
+        named = subst (λ (a : At K C). TellsPeer a (log_of d) (request_head (seen_with d left)))
+            (sym begun.1) tt;
         untried = λ still. untried;
         untreated = subst (λ (l : List LogEntry). IsUntreated l) entries
             (made_untreated called.entries called.order

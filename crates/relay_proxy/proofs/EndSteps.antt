@@ -33,6 +33,7 @@ use Rattle.relay_hooks.specs.Standing.{Standing, standing}
 use Rattle.relay_calls.specs.Log.{Walk}
 use Rattle.relay_calls.proofs.LogLemmas.{Walk-append}
 use Rattle.relay_phases.specs.Order.{Accepts, Station}
+use Rattle.relay_phases.specs.Order.{Station}
 use Rattle.relay_phases.specs.Order.{Station as station}
 use Rattle.relay_phases.proofs.OrderLemmas.{Accepts-one}
 use Rattle.relay_closing.specs.Closes.{Asks, TurnsAt, TurnsOn, TurnsTo, logged_in, logged_to}
@@ -51,6 +52,7 @@ use Rattle.relay_proxy.specs.Ahead.{IsOwedAhead}
 use Rattle.relay_proxy.specs.Bound.{IsWithin, OwnGave, PhaseCounts, most_sides}
 use Rattle.relay_proxy.specs.Calls.{CallsLast, CallsSoFar, EndsBy, HasClosed, HasCome, IsLogged, IsUnended, KeepsValue, StandsAt, StandsBy, given_at, has_last, kept_at, last_from, last_of, log_of, reuse_of}
 use Rattle.relay_proxy.specs.ClosingHooks.{Gives, calls_next, error_to, given, has_begun, is_gone, kept_in, stays_alive}
+use Rattle.relay_proxy.specs.Purging.{HasLost}
 use Rattle.relay_proxy.specs.Endings.{AttemptsFailed, EndsAhead, EndsLinked, EndsUnlinked, EndsWith, IsGiven, IsGivenAhead, IsInOrder, MadeAhead}
 use Rattle.relay_proxy.specs.Passed.{Start, TellsClient, World, answer_in, before_end, begins_end, called_to, closed_to, opened_to}
 use Rattle.relay_proxy.specs.Phases.{PhaseHolds, RunSoFar}
@@ -74,7 +76,8 @@ use Rattle.relay_proxy.specs.declared.outcome.Outcome.{Outcome}
 use Rattle.relay_proxy.specs.declared.outcome.Outcome.TheVariants.{NoRequest, Refused, Served, TurnLimit, OutOfMemory}
 use Rattle.relay_proxy.specs.declared.record.AttemptRecord.{AttemptRecord}
 use Rattle.relay_proxy.specs.declared.work.Work.{Work}
-use Rattle.relay_proxy.proofs.LastCalls.{alive_less, alive_more, begins_behind, logged_append}
+use Rattle.relay_proxy.proofs.PurgeSteps.{StandsElsewhere, ends_elsewhere}
+use Rattle.relay_proxy.proofs.LastCalls.{alive_less, alive_more, begins_behind, calls_logged, logged_append}
 use Rattle.relay_proxy.proofs.StepLemmas.{more-nil}
 use Rattle.relay_proxy.proofs.TakenLemmas.{takes_nothing}
 use Rattle.relay_proxy.proofs.TreatLemmas.{ends_with, still_open}
@@ -215,8 +218,6 @@ module _ (s : Start) (log closed : List LogEntry) where
       IsOwedAhead.by_answer head tasks t (accepted_on p head has) order is_answer is
   owed_on p why text (IsOwedAhead.by_error head e t has stops answers is) =
       absurd (unanswered e answers)
-  owed_on p why text (IsOwedAhead.by_purge head e t has order same is) =
-      IsOwedAhead.by_purge head e t (accepted_on p head has) order same is
 
   order_on : (p : Passed) → IsInOrder (opened_to s log) p → IsInOrder (closed_to s log closed) p
   order_on p (IsInOrder.is_nothing written sent) = IsInOrder.is_nothing written sent
@@ -907,6 +908,16 @@ module _ {L C M K : Type 0} (allows : Standing → LogEntry → Type 0) (mark_of
       (sym last.is_at)
       (last_to allows mark_of old new goes_back so.0.error last last.from refl calls_some stood))
 
+  -- where it stood no answer of a purge is filtered, and the log is in order behind it
+  pub last_elsewhere : StandsElsewhere (log_of old)
+      × ((at : Station) × IsLogged allows (log_of new) at)
+  last_elsewhere =
+      let so = ends_served phase old.at goes_back ends in (
+        ends_elsewhere allows mark_of old last.held old.session.seen.downstream so.0.error goes_back
+            last.from calls_some stood,
+        calls_logged allows mark_of new phase calls_last,
+      )
+
   -- and so does the run so far, in a step that calls a hook alone
   pub last_on : (state : L → LinkState) (start_at : L → LinkStart) (s : Start) (p : Passed)
       (w : World) (own : List (Returned L)) (returned : Option (List (Returned L)))
@@ -951,19 +962,18 @@ module _ {C M K : Type 0} (allows : Standing → LogEntry → Type 0) (mark_of :
   stands_give calls held client error true (closing.At (stage.Logged why)) s =
       Gives.cut error true refl (inl refl)
   stands_give calls held client error false (closing.At (stage.Logged why)) s =
-      Gives.same refl
-      (inl (
+      Gives.same refl (
         s.logged ∙ ap (λ (o : Option Error). failure o ∷ []) s.error_is,
         λ back. absurd (true≢false (sym back)),
-      ))
+      )
   stands_give calls held client error true (closing.Ended (end.Gone why)) s =
       Gives.closes error refl refl s.logged s.alive
   stands_give calls held client error false (closing.Ended (end.Gone why)) s =
-      Gives.same refl (inl (s.logged, λ back. absurd (true≢false (sym back))))
+      Gives.same refl (s.logged, λ back. absurd (true≢false (sym back)))
   stands_give calls held client error true (closing.Ended (end.Kept why kept)) s =
-      Gives.same refl (inl (s.logged, λ back. s.alive))
+      Gives.same refl (s.logged, λ back. s.alive)
   stands_give calls held client error false (closing.Ended (end.Kept why kept)) s =
-      Gives.same refl (inl (s.logged, λ back. s.alive))
+      Gives.same refl (s.logged, λ back. s.alive)
   stands_give calls held client error reuse closing.Lost s =
       Gives.cut error reuse refl (inr refl)
 
@@ -972,7 +982,8 @@ module _ {C M K : Type 0} (allows : Standing → LogEntry → Type 0) (mark_of :
       (here : At K C) → EndsBy allows mark_of here calls client error
       → Gives (log_of calls) (Served error reuse) (given_at here (Served error reuse))
   ends_give calls client error reuse (at.Kept kept) ends = absurd ends
-  ends_give calls client error reuse (at.Opening there) ends = Gives.same refl (inr ends.1)
+  ends_give calls client error reuse (at.Opening there) ends = absurd ends
+  ends_give calls client error reuse (at.Purging action) ends = absurd ends
   ends_give calls client error reuse (at.Named peer) ends = absurd ends
   ends_give calls client error reuse (at.Repeatable treated) ends = absurd ends
   ends_give calls client error reuse at.Warning ends = absurd ends
@@ -993,6 +1004,7 @@ given_same : {K X : Type 0} (here : At K X) (came : Outcome) → is_served came 
     → given_at here came ≡ came
 given_same (at.Kept kept) came is = refl
 given_same (at.Opening there) came is = refl
+given_same (at.Purging action) came is = refl
 given_same (at.Named peer) came is = refl
 given_same (at.Repeatable error) came is = refl
 given_same at.Warning came is = refl
@@ -1097,8 +1109,8 @@ module _ {C M K : Type 0} (allows : Standing → LogEntry → Type 0) (mark_of :
       → IsSome (kept_of (given_at here (Served error reuse)) (kept_at here))
       → KeepsValue (log_of calls)
   ends_keep calls client error reuse (at.Kept kept) ends some = absurd ends
-  ends_keep calls client error reuse (at.Opening there) ends some =
-      absurd (none_kept K (Served error reuse) some)
+  ends_keep calls client error reuse (at.Opening there) ends some = absurd ends
+  ends_keep calls client error reuse (at.Purging action) ends some = absurd ends
   ends_keep calls client error reuse (at.Named peer) ends some = absurd ends
   ends_keep calls client error reuse (at.Repeatable treated) ends some = absurd ends
   ends_keep calls client error reuse at.Warning ends some = absurd ends
@@ -1185,6 +1197,7 @@ cut_off : {K X : Type 0} (here : At K X) (error : Option Error) (reuse : Bool)
     → has_last here reuse ≡ true → given_at here (Served error reuse) ≡ TurnLimit
 cut_off (at.Kept kept) error reuse calls = absurd (true≢false (sym calls))
 cut_off (at.Opening there) error reuse calls = absurd (true≢false (sym calls))
+cut_off (at.Purging action) error reuse calls = absurd (true≢false (sym calls))
 cut_off (at.Named peer) error reuse calls = absurd (true≢false (sym calls))
 cut_off (at.Repeatable treated) error reuse calls = absurd (true≢false (sym calls))
 cut_off at.Warning error reuse calls = absurd (true≢false (sym calls))
@@ -1211,6 +1224,13 @@ limited : {K X : Type 0} (here : At K X) (came : Outcome) → came ≡ TurnLimit
 limited here came is =
     ap (λ (o : Outcome). given_at here o) is ∙ given_same here TurnLimit refl
 
+-- a request that ended for want of memory gives that
+pub lost_gives : {L C K : Type 0} (phase : Phase L C) (here : At K C) (came given : Outcome)
+    → HasLost phase → CameTo phase came → given ≡ given_at here came → given ≡ OutOfMemory
+lost_gives phase here came given (attempts, is) comes gives =
+    let same : came ≡ OutOfMemory = subst (λ (k : Phase _ _). CameTo k came) is comes in
+    gives ∙ ap (λ (o : Outcome). given_at here o) same ∙ given_same here OutOfMemory refl
+
 -- a request that has not ended, or of which a hook is to be called, gives `TurnLimit`
 pub undone_limit : {L C K X : Type 0} (phase : Phase L C) (here : At K X) (came : Outcome)
     → CameTo phase came → is_done phase here ≡ false → given_at here came ≡ TurnLimit
@@ -1234,6 +1254,7 @@ none_cut : {K X : Type 0} (here : At K X) (error : Option Error) (reuse : Bool)
     → has_last here reuse ≡ false → given_at here (Served error reuse) ≢ TurnLimit
 none_cut (at.Kept kept) error reuse none = λ limit. cc
 none_cut (at.Opening there) error reuse none = λ limit. cc
+none_cut (at.Purging action) error reuse none = λ limit. cc
 none_cut (at.Named peer) error reuse none = λ limit. cc
 none_cut (at.Repeatable treated) error reuse none = λ limit. cc
 none_cut at.Warning error reuse none = λ limit. cc

@@ -415,10 +415,6 @@ ahead_or_at s p why text
     (IsOwedAhead.by_error head e t has stops told is) lets =
     one_station s.called station.failing lets.at stops.order lets.order
     (not_there station.failing lets.at refl lets.goes)
-ahead_or_at s p why text
-    (IsOwedAhead.by_purge head e t has order same is) lets =
-    one_station s.called station.purging lets.at order lets.order
-    (not_there station.purging lets.at refl lets.goes)
 
 pub lets_pass : (s : Start) (p : Passed) (w : World) → LetsGo s.called → PassesHooks s p w
 lets_pass s p w lets told ahead =

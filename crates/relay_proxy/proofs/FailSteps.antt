@@ -687,11 +687,12 @@ goes_leads (at.Kept kept) goes = absurd goes
 goes_leads (at.Opening (stage.Behind last)) goes = refl
 goes_leads (at.Opening (stage.Ended end.Attempts)) goes = refl
 goes_leads (at.Opening (stage.Ended end.Answered)) goes = absurd goes
-goes_leads (at.Opening (stage.Ended end.Purge)) goes = absurd goes
+goes_leads (at.Opening (stage.Ended end.Purge)) goes = refl
 goes_leads (at.Opening (stage.Ended end.Declined)) goes = absurd goes
 goes_leads (at.Opening (stage.Ended (end.Unwritten why))) goes = absurd goes
 goes_leads (at.Opening (stage.Ended (end.Failed error))) goes = refl
 goes_leads (at.Opening stage.Lost) goes = absurd goes
+goes_leads (at.Purging action) goes = refl
 goes_leads (at.Named peer) goes = refl
 goes_leads (at.Repeatable error) goes = refl
 goes_leads at.Warning goes = refl
@@ -706,6 +707,8 @@ pub unasked : {C M K : Type 0} (allows : Standing → LogEntry → Type 0) (c d 
     → (leads_at d.at ≡ led.GoesOn → ⊥) → log_of d ≡ log_of c
 unasked allows c d client left mark behind error (TakesNext.leads before which comes there to turn)
     stops = absurd (true≢false (sym before))
+unasked allows c d client left mark behind error (TakesNext.asks t) stops =
+    let clash : at.Repeatable error ≡ at.Opening (stage.Ended end.Purge) = t.is_here in cc
 unasked allows c d client left mark behind error (TakesNext.tried t) stops =
     absurd (stops (goes_leads d.at t.goes))
 unasked allows c d client left mark behind error (TakesNext.lost to same) stops = same

@@ -4,9 +4,7 @@
 --   opening_on                 the calls so far, behind it
 --   goes_connecting            the request goes on
 --   answered                   hooks answered it
---   purged                     it is a purge
 --   counts_called ..           what is counted of the call
---   stop_text                  what answers that
 use Rattle.std.proofs.Common.{◌≡◌, ℕ, ◌≤◌, true, false, List, [], ◌∷◌, ◌++◌, Some, None, Bool, Option, is_some, refl, sym, ap, subst, ◌∙◌, arith, true≢false}
 use Rattle.relay_opening.proofs.ToldLemmas.{reads_truncated}
 use Rattle.relay_tasks.specs.Head.{RequestHead}
@@ -16,15 +14,11 @@ use Rattle.relay_tasks.specs.declared.Peer.{Peer}
 use Rattle.relay_tasks.specs.declared.hook.Hook.{Hook}
 use Rattle.relay_tasks.specs.declared.hook.Hook.TheVariants as hook
 use Rattle.relay_tasks.specs.declared.log.LogEntry.{LogEntry}
-use Rattle.relay_session.specs.Asked.{request_of}
 use Rattle.relay_session.specs.Response.{IsOpen, has_head}
 use Rattle.relay_session.specs.declared.session.HttpSession.{HttpSession}
-use Rattle.relay_session.specs.declared.task_text.Place as stage
-use Rattle.relay_session.specs.declared.task_text.Place.TheVariants as stands
-use Rattle.relay_session.specs.declared.task_text.Request.{Request}
-use Rattle.relay_session.specs.declared.writing.Outgoing.{Outgoing}
 use Rattle.relay_session.specs.declared.writing.Outgoing.TheVariants as outgoing
 use Rattle.relay_session.specs.declared.writing.Writing.{Writing}
+use Rattle.relay_hooks.specs.Session.{request_head}
 use Rattle.relay_hooks.specs.Standing.{Standing}
 use Rattle.relay_phases.specs.Order.{Accepts, Station, next}
 use Rattle.relay_phases.specs.Order.{Station as station}
@@ -40,11 +34,9 @@ use Rattle.relay_opening.specs.declared.place.End.TheVariants as end
 use Rattle.relay_opening.proofs.QueuedLemmas.{end_open}
 use Rattle.relay_attempt.specs.Passed.{Passed}
 use Rattle.relay_proxy.specs.Ahead.{IsOwedAhead, LastFails}
-use Rattle.relay_proxy.specs.Answer.{QueuesAnswer, answer_for}
-use Rattle.relay_proxy.specs.Calls.{CallsNext, CountsCalls, EndsBy, Goes, GoesOn, IsLogged, IsOpening, IsOwing, IsUnended, TakesNext, TellsError, TellsPeer, comes_next, failed_at, final_at, is_before, leads_at, leads_to, log_of, place_station, seen_with, station_at}
+use Rattle.relay_proxy.specs.Calls.{CallsNext, CountsCalls, Goes, GoesOn, IsLogged, IsOpening, IsOwing, IsUnended, TakesNext, TellsError, TellsPeer, comes_next, failed_at, final_at, is_before, leads_at, leads_to, log_of, place_station, seen_with, station_at}
 use Rattle.relay_proxy.specs.Passed.{Start, World, begins_end, opened_to}
 use Rattle.relay_proxy.specs.Phases.{IsConnecting}
-use Rattle.relay_proxy.specs.Relayable.{IsAccepted}
 use Rattle.relay_proxy.specs.Sent.{IsUntreated}
 use Rattle.relay_proxy.specs.Tries.{refusals_in}
 use Rattle.relay_closing.specs.Place.{begun}
@@ -60,7 +52,7 @@ use Rattle.relay_proxy.specs.declared.work.Work.{Work}
 use Rattle.relay_proxy.proofs.CallLemmas.{logged_more, logged_same, none_called, one_called, order_more, walks_more}
 use Rattle.relay_proxy.proofs.LastCalls.{unended_unlogged, unlogged_alive}
 use Rattle.relay_proxy.proofs.NamedLemmas.{refusals_still}
-use Rattle.relay_proxy.proofs.OpenSteps.{AnswersAs, called_accepted, hooks_answer, stands_first, stays_connecting}
+use Rattle.relay_proxy.proofs.OpenSteps.{AnswersAs, hooks_answer, stays_connecting}
 use Rattle.relay_proxy.proofs.TreatLemmas.{unended_more, untreated_more}
 
 -- the hooks are over so, where they answered the request
@@ -83,17 +75,6 @@ done_of (place.Ended (end.Unwritten why)) is = cc
 done_of (place.Ended (end.Failed error)) is = cc
 done_of place.Lost is = cc
 
--- or the request is a purge
-purge_of : {K : Type 0} (p : Place K) → leads_to p ≡ led.Purges → p ≡ place.Ended end.Purge
-purge_of (place.Behind last) is = cc
-purge_of (place.Ended end.Attempts) is = cc
-purge_of (place.Ended end.Answered) is = cc
-purge_of (place.Ended end.Purge) is = refl
-purge_of (place.Ended end.Declined) is = cc
-purge_of (place.Ended (end.Unwritten why)) is = cc
-purge_of (place.Ended (end.Failed error)) is = cc
-purge_of place.Lost is = cc
-
 -- where a call led anywhere but out of memory its place is known
 pub known_at : {K X : Type 0} (a : At K X) (to : Opened) → to ≡ leads_at a
     → (to ≡ led.OutOfMemory → ⊥) → a ≡ at.Opening place.Lost → ⊥
@@ -103,6 +84,7 @@ known_at a to is known lost = known (is ∙ ap (λ (b : At _ _). leads_at b) los
 abbrev place_in : {K X : Type 0} → At K X → Place K
 place_in (at.Kept kept) = place.Lost
 place_in (at.Opening there) = there
+place_in (at.Purging action) = place.Lost
 place_in (at.Named peer) = place.Lost
 place_in (at.Repeatable error) = place.Lost
 place_in at.Warning = place.Lost
@@ -117,24 +99,26 @@ same_place p q same = ap (λ (a : At _ _). place_in a) same
 pub same_peer : {K X : Type 0} (p q : Peer) → ◌≡◌ {A = At K X} (at.Named p) (at.Named q) → p ≡ q
 same_peer p q same = cc
 
--- a hook in which no error of an attempt is treated, and with which no end begins
+-- a hook in which no error of an attempt is treated, with which no end begins, and which filters no
+-- answer of a purge
 abbrev IsBefore : Hook → Type 0
 IsBefore which =
     (same_hook hook.ErrorWhileProxy which ≡ false) × (begins_end which ≡ false)
     × (same_hook hook.FailToConnect which ≡ false)
+    × (same_hook hook.PurgeResponseFilter which ≡ false)
 
 -- the hook that comes next is one
 opens_behind : {K : Type 0} (last : Called K) (has_modules : Bool)
     → IsBefore (next_hook last has_modules)
-opens_behind (called.Made None) has_modules = (refl, refl, refl)
-opens_behind (called.Made (Some kept)) has_modules = (refl, refl, refl)
-opens_behind called.Handed has_modules = (refl, refl, refl)
-opens_behind called.Early has_modules = (refl, refl, refl)
-opens_behind called.Spawning true = (refl, refl, refl)
-opens_behind called.Spawning false = (refl, refl, refl)
-opens_behind called.Headed has_modules = (refl, refl, refl)
-opens_behind called.Filtered has_modules = (refl, refl, refl)
-opens_behind called.Sending has_modules = (refl, refl, refl)
+opens_behind (called.Made None) has_modules = (refl, refl, refl, refl)
+opens_behind (called.Made (Some kept)) has_modules = (refl, refl, refl, refl)
+opens_behind called.Handed has_modules = (refl, refl, refl, refl)
+opens_behind called.Early has_modules = (refl, refl, refl, refl)
+opens_behind called.Spawning true = (refl, refl, refl, refl)
+opens_behind called.Spawning false = (refl, refl, refl, refl)
+opens_behind called.Headed has_modules = (refl, refl, refl, refl)
+opens_behind called.Filtered has_modules = (refl, refl, refl, refl)
+opens_behind called.Sending has_modules = (refl, refl, refl, refl)
 
 -- where hooks come one behind the other, that is the one
 same_next : (a b : Hook) → Some a ≡ Some b → IsBefore a → IsBefore b
@@ -146,18 +130,20 @@ opens_by (at.Kept kept) has_modules which is = cc
 opens_by (at.Opening (place.Behind last)) has_modules which is =
     same_next (next_hook last has_modules) which is (opens_behind last has_modules)
 opens_by (at.Opening (place.Ended end.Attempts)) has_modules which is =
-    same_next hook.UpstreamPeer which is (refl, refl, refl)
+    same_next hook.UpstreamPeer which is (refl, refl, refl, refl)
 opens_by (at.Opening (place.Ended end.Answered)) has_modules which is = cc
-opens_by (at.Opening (place.Ended end.Purge)) has_modules which is = cc
+opens_by (at.Opening (place.Ended end.Purge)) has_modules which is =
+    same_next hook.PurgeAction which is (refl, refl, refl, refl)
 opens_by (at.Opening (place.Ended end.Declined)) has_modules which is = cc
 opens_by (at.Opening (place.Ended (end.Unwritten why))) has_modules which is = cc
 opens_by (at.Opening (place.Ended (end.Failed error))) has_modules which is = cc
 opens_by (at.Opening place.Lost) has_modules which is = cc
+opens_by (at.Purging action) has_modules which is = cc
 opens_by (at.Named peer) has_modules which is = cc
 opens_by (at.Repeatable error) has_modules which is =
-    same_next hook.SuppressProxyWarnLog which is (refl, refl, refl)
+    same_next hook.SuppressProxyWarnLog which is (refl, refl, refl, refl)
 opens_by at.Warning has_modules which is =
-    same_next hook.RequestSummary which is (refl, refl, refl)
+    same_next hook.RequestSummary which is (refl, refl, refl, refl)
 opens_by at.Linked has_modules which is = cc
 opens_by (at.Treated error) has_modules which is = cc
 opens_by (at.Closing held there) has_modules which is = cc
@@ -177,6 +163,7 @@ pub final_station : {K X : Type 0} (a : At K X) (e : Error) → final_at a ≡ S
     → station_at a ≡ station.failing
 final_station (at.Kept kept) e is = cc
 final_station (at.Opening there) e is = failed_station there e is
+final_station (at.Purging action) e is = cc
 final_station (at.Named peer) e is = cc
 final_station (at.Repeatable treated) e is = cc
 final_station at.Warning e is = cc
@@ -184,17 +171,18 @@ final_station at.Linked e is = cc
 final_station (at.Treated error) e is = cc
 final_station (at.Closing held there) e is = cc
 
-pub final_fails : {K X : Type 0} (a : At K X) (log : List LogEntry) (e : Error)
-    → final_at a ≡ Some e → TellsPeer a log → LastFails log e
-final_fails (at.Kept kept) log e is tells = cc
-final_fails (at.Opening there) log e is tells =
+pub final_fails : {K X : Type 0} (a : At K X) (log : List LogEntry) (head : RequestHead)
+    (e : Error) → final_at a ≡ Some e → TellsPeer a log head → LastFails log e
+final_fails (at.Kept kept) log head e is tells = cc
+final_fails (at.Opening there) log head e is tells =
     subst (λ (o : Option Error). TellsError o log) is tells
-final_fails (at.Named peer) log e is tells = cc
-final_fails (at.Repeatable treated) log e is tells = cc
-final_fails at.Warning log e is tells = cc
-final_fails at.Linked log e is tells = cc
-final_fails (at.Treated error) log e is tells = cc
-final_fails (at.Closing held there) log e is tells = cc
+final_fails (at.Purging action) log head e is tells = cc
+final_fails (at.Named peer) log head e is tells = cc
+final_fails (at.Repeatable treated) log head e is tells = cc
+final_fails at.Warning log head e is tells = cc
+final_fails at.Linked log head e is tells = cc
+final_fails (at.Treated error) log head e is tells = cc
+final_fails (at.Closing held there) log head e is tells = cc
 
 module _ {C M K : Type 0} (allows : Standing → LogEntry → Type 0) (mark_of : C → ℕ)
     (old new : Calls M K C) (context context' : C) (client left : HttpSession)
@@ -204,6 +192,7 @@ module _ {C M K : Type 0} (allows : Standing → LogEntry → Type 0) (mark_of :
     record Turned (p : Place K) : Type 0 where
       before : is_before old.at ≡ true
       which : Hook
+      comes : comes_next old.at (is_some old.session.modules) ≡ Some which
       turn : TurnsTo allows which (station_at old.at) (seen_with old client) (mark_of context)
           (seen_with new left) (mark_of context') p
 
@@ -212,10 +201,13 @@ module _ {C M K : Type 0} (allows : Standing → LogEntry → Type 0) (mark_of :
     turned_by (TakesNext.leads before which comes there to turn) p is known over = record {
       before = before;
       which = which;
+      comes = comes;
       turn = subst (λ (q : Place K). TurnsTo allows which (station_at old.at)
           (seen_with old client) (mark_of context) (seen_with new left) (mark_of context') q)
           (same_place there p (sym to ∙ is)) turn;
     }
+    turned_by (TakesNext.asks t) p is known over =
+        let clash : at.Purging t.action ≡ at.Opening p = sym t.is_to ∙ is in cc
     turned_by (TakesNext.tried t) p is known over =
         absurd (over (subst (λ (a : At K C). GoesOn a) is t.goes))
     turned_by (TakesNext.lost to same) p is known over =
@@ -236,6 +228,9 @@ module _ {C M K : Type 0} (allows : Standing → LogEntry → Type 0) (mark_of :
         (opens_by old.at (is_some old.session.modules) which comes).0 none
     untreated_by (TakesNext.leads before which comes place.Lost to turn) none =
         subst (λ (l : List LogEntry). IsUntreated l) (sym turn) none
+    untreated_by (TakesNext.asks t) none =
+        untreated_more (log_of old) (log_of new) t.turn.e hook.PurgeAction t.turn.calls.log
+        t.turn.hook refl none
     untreated_by (TakesNext.tried t) none =
         untreated_more (log_of old) (log_of new) t.turn.e t.which t.turn.calls.log t.turn.hook
         (opens_by old.at (is_some old.session.modules) t.which t.comes).0 none
@@ -256,6 +251,9 @@ module _ {C M K : Type 0} (allows : Standing → LogEntry → Type 0) (mark_of :
         (opens_by old.at (is_some old.session.modules) which comes).1 none
     unended_by (TakesNext.leads before which comes place.Lost to turn) none =
         subst (λ (l : List LogEntry). IsUnended l) (sym turn) none
+    unended_by (TakesNext.asks t) none =
+        unended_more (log_of old) (log_of new) t.turn.e hook.PurgeAction t.turn.calls.log
+        t.turn.hook refl none
     unended_by (TakesNext.tried t) none =
         unended_more (log_of old) (log_of new) t.turn.e t.which t.turn.calls.log t.turn.hook
         (opens_by old.at (is_some old.session.modules) t.which t.comes).1 none
@@ -278,6 +276,9 @@ module _ {C M K : Type 0} (allows : Standing → LogEntry → Type 0) (mark_of :
         (opens_by old.at (is_some old.session.modules) which comes).2
     refusals_by (TakesNext.leads before which comes place.Lost to turn) =
         ap (λ (l : List LogEntry). refusals_in l) turn
+    refusals_by (TakesNext.asks t) =
+        ap (λ (l : List LogEntry). refusals_in l) t.turn.calls.log
+        ∙ refusals_still (log_of old) t.turn.e hook.PurgeAction t.turn.hook refl
     refusals_by (TakesNext.tried t) =
         ap (λ (l : List LogEntry). refusals_in l) t.turn.calls.log
         ∙ refusals_still (log_of old) t.turn.e t.which t.turn.hook
@@ -297,7 +298,7 @@ module _ {C M K : Type 0} (allows : Standing → LogEntry → Type 0) (mark_of :
       turn : Turns allows which (station_at old.at) (station_at a) QueuesNothing
           (seen_with old client) (mark_of context) (seen_with new left) (mark_of context')
       goes : GoesOn a
-      tells : TellsPeer a (log_of new)
+      tells : TellsPeer a (log_of new) (request_head (seen_with new left))
       before : is_before a ≡ true → is_before old.at ≡ true
 
     -- behind one before the attempts
@@ -323,7 +324,14 @@ module _ {C M K : Type 0} (allows : Standing → LogEntry → Type 0) (mark_of :
       before = λ still. before;
     }
     goes_behind (place.Ended end.Answered) before which other turn goes = cc
-    goes_behind (place.Ended end.Purge) before which other turn goes = cc
+    goes_behind (place.Ended end.Purge) before which other turn goes = record {
+      which = which;
+      other = other;
+      turn = turn.0;
+      goes = tt;
+      tells = tt;
+      before = λ still. before;
+    }
     goes_behind (place.Ended end.Declined) before which other turn goes = cc
     goes_behind (place.Ended (end.Unwritten why)) before which other turn goes = cc
     goes_behind (place.Ended (end.Failed error)) before which other turn goes = record {
@@ -348,6 +356,17 @@ module _ {C M K : Type 0} (allows : Standing → LogEntry → Type 0) (mark_of :
         (goes_behind there before which
         (opens_by old.at (is_some old.session.modules) which comes).2 turn
         (sym (ap (λ (a : At K C). leads_at a) to) ∙ goes))
+    goes_by (TakesNext.asks t) goes =
+        subst (λ (a : At K C). Advanced a) (sym t.is_to) (record {
+          which = hook.PurgeAction;
+          other = refl;
+          turn = subst (λ (a : At K C). Turns allows hook.PurgeAction (station_at a) station.purged
+              QueuesNothing (seen_with old client) (mark_of context) (seen_with new left)
+              (mark_of context')) (sym t.is_here) t.turn;
+          goes = tt;
+          tells = t.tells;
+          before = λ still. ap (λ (a : At K C). is_before a) t.is_here;
+        })
     goes_by (TakesNext.tried t) goes = record {
       which = t.which;
       other = (opens_by old.at (is_some old.session.modules) t.which t.comes).2;
@@ -421,7 +440,7 @@ module _ {C M K : Type 0} (allows : Standing → LogEntry → Type 0) (mark_of :
         ([], (k.begins k.head false).output) in
         let answers = hooks_answer allows old new client left (mark_of context)
         (mark_of context') t.which (station_at old.at) done.how s q w tries waits.0 t.turn.0
-        done.answers done.at
+        done.answers (opens_by old.at (is_some old.session.modules) t.which t.comes).3 done.at
         (order_on tries t.turn.0.e (end_station done.how) t.turn.0.calls.log t.turn.0.order o)
         waits.1 k in
         record {
@@ -438,6 +457,7 @@ module _ {C M K : Type 0} (allows : Standing → LogEntry → Type 0) (mark_of :
         → IsConnecting (opened_to s (log_of old)) q w client tries → Answered s q
     answered_at (at.Kept kept) is leads s q w tries o k = cc
     answered_at (at.Opening p) is leads s q w tries o k = answered_by p is leads s q w tries o k
+    answered_at (at.Purging action) is leads s q w tries o k = cc
     answered_at (at.Named peer) is leads s q w tries o k = cc
     answered_at (at.Repeatable error) is leads s q w tries o k = cc
     answered_at at.Warning is leads s q w tries o k = cc
@@ -451,55 +471,6 @@ module _ {C M K : Type 0} (allows : Standing → LogEntry → Type 0) (mark_of :
         → IsConnecting (opened_to s (log_of old)) q w client tries → Answered s q
     answered leads s q w tries o k = answered_at new.at refl leads s q w tries o k
 
-    -- the request is a purge, of which nothing was queued
-    pub record IsPurge (s : Start) (q : Passed) : Type 0 where
-      pub head : RequestHead
-      pub is_open : left.writing.output ≡ outgoing.Open []
-      pub request : left.writing.request ≡ request_of head
-      pub place : left.writing.place ≡ stands.NoHead
-      pub accepted : IsAccepted (opened_to s (log_of new)) q head
-      pub order : Accepts station.accepted (log_of new) station.purging
-
-    purged_place : (p : Place K) → new.at ≡ at.Opening p → leads_to p ≡ led.Purges
-        → (s : Start) (q : Passed) (w : World) (tries : List AttemptRecord)
-        → IsOpening allows mark_of old context client tries
-        → IsConnecting (opened_to s (log_of old)) q w client tries → IsPurge s q
-    purged_place p is leads s q w tries o k =
-        let t = turned (place.Ended end.Purge)
-        (is ∙ ap (λ (x : Place K). at.Opening x) (purge_of p leads)) (λ lost. cc)
-        (λ goes. goes) in
-        let begins = k.begins k.head false in
-        let same : left.writing ≡ client.writing = t.turn.0.queued.same in
-        record {
-          head = k.head;
-          is_open = ap (λ (x : Writing). x.output) same ∙ begins.output;
-          request = ap (λ (x : Writing). x.request) same ∙ begins.answers
-              ∙ ap (λ (h : RequestHead). request_of h) begins.own;
-          place = ap (λ (x : Writing). x.place) same
-              ∙ stands_first client.writing begins.response begins.output;
-          accepted = called_accepted s (log_of old) (log_of new) q k.head k.accepted;
-          order = order_on tries t.turn.0.e station.purging t.turn.0.calls.log t.turn.0.order o;
-        }
-
-    purged_at : (a : At K C) → new.at ≡ a → leads_at a ≡ led.Purges → (s : Start)
-        (q : Passed) (w : World) (tries : List AttemptRecord)
-        → IsOpening allows mark_of old context client tries
-        → IsConnecting (opened_to s (log_of old)) q w client tries → IsPurge s q
-    purged_at (at.Kept kept) is leads s q w tries o k = cc
-    purged_at (at.Opening p) is leads s q w tries o k = purged_place p is leads s q w tries o k
-    purged_at (at.Named peer) is leads s q w tries o k = cc
-    purged_at (at.Repeatable error) is leads s q w tries o k = cc
-    purged_at at.Warning is leads s q w tries o k = cc
-    purged_at at.Linked is leads s q w tries o k = cc
-    purged_at (at.Treated error) is leads s q w tries o k = cc
-    purged_at (at.Closing held there) is leads s q w tries o k = cc
-
-    pub purged : leads_at new.at ≡ led.Purges → (s : Start)
-        (q : Passed) (w : World) (tries : List AttemptRecord)
-        → IsOpening allows mark_of old context client tries
-        → IsConnecting (opened_to s (log_of old)) q w client tries → IsPurge s q
-    purged leads s q w tries o k = purged_at new.at refl leads s q w tries o k
-
     -- ---- what is counted, and the log
 
     counts_by : CallsNext allows old client (mark_of context) new left (mark_of context')
@@ -511,6 +482,8 @@ module _ {C M K : Type 0} (allows : Standing → LogEntry → Type 0) (mark_of :
         one_called old new work once turn.0.e turn.0.calls.log
     counts_by (TakesNext.leads before which comes place.Lost to turn) work known once =
         absurd (known to)
+    counts_by (TakesNext.asks t) work known once =
+        one_called old new work once t.turn.e t.turn.calls.log
     counts_by (TakesNext.tried t) work known once =
         one_called old new work once t.turn.e t.turn.calls.log
     counts_by (TakesNext.lost to same) work known once = absurd (known to)
@@ -527,6 +500,8 @@ module _ {C M K : Type 0} (allows : Standing → LogEntry → Type 0) (mark_of :
     memory_by (TakesNext.leads before which comes (place.Ended how) to turn) work none =
         one_called old new work (omega (arith, none)) turn.0.e turn.0.calls.log
     memory_by (TakesNext.leads before which comes place.Lost to turn) work none = none_called old new work none turn
+    memory_by (TakesNext.asks t) work none =
+        one_called old new work (omega (arith, none)) t.turn.e t.turn.calls.log
     memory_by (TakesNext.tried t) work none =
         one_called old new work (omega (arith, none)) t.turn.e t.turn.calls.log
     memory_by (TakesNext.lost to same) work none = none_called old new work none same
@@ -544,6 +519,14 @@ module _ {C M K : Type 0} (allows : Standing → LogEntry → Type 0) (mark_of :
         (_, logged_more allows mark_of old new context context' client left tries which _ _ turn.0 o)
     logged_by (TakesNext.leads before which comes place.Lost to turn) tries o =
         logged_same allows mark_of old new context client tries turn o
+    logged_by (TakesNext.asks t) tries o = (
+      station.purged,
+      logged_more allows mark_of old new context context' client left tries hook.PurgeAction
+          station.purged QueuesNothing
+          (subst (λ (a : At K C). Turns allows hook.PurgeAction (station_at a) station.purged
+          QueuesNothing (seen_with old client) (mark_of context) (seen_with new left)
+          (mark_of context')) (sym t.is_here) t.turn) o,
+    )
     logged_by (TakesNext.tried t) tries o = (
       station_at new.at,
       logged_more allows mark_of old new context context' client left tries t.which
@@ -591,6 +574,7 @@ module _ {C M K : Type 0} (allows : Standing → LogEntry → Type 0) (mark_of :
         (owing.Ahead None)
     owing_at (at.Kept kept) is leads tries o = cc
     owing_at (at.Opening p) is leads tries o = owing_by p is leads tries o
+    owing_at (at.Purging action) is leads tries o = cc
     owing_at (at.Named peer) is leads tries o = cc
     owing_at (at.Repeatable error) is leads tries o = cc
     owing_at at.Warning is leads tries o = cc
@@ -603,48 +587,3 @@ module _ {C M K : Type 0} (allows : Standing → LogEntry → Type 0) (mark_of :
         → IsOwing allows mark_of (record new { at = at.Closing context' (begun None) }) left
         (owing.Ahead None)
     answered_owing leads tries o = owing_at new.at refl leads tries o
-
-    -- it is a purge, which has no such end so far
-    unheard_by : (p : Place K) → new.at ≡ at.Opening p → leads_to p ≡ led.Purges
-        → (tries : List AttemptRecord) → (other : HttpSession) → (e : Error)
-        → IsOpening allows mark_of old context client tries
-        → IsOwing allows mark_of new other (owing.Ahead (Some e))
-    unheard_by p is leads tries other e o =
-        let purges = purge_of p leads in
-        let t = turned (place.Ended end.Purge)
-        (is ∙ ap (λ (x : Place K). at.Opening x) purges) (λ lost. cc) (λ goes. goes) in
-        subst (λ (a : At K C). EndsBy allows mark_of a new other (Some e)) (sym is) (
-          memory_logged tries o,
-          order_on tries t.turn.0.e station.purging t.turn.0.calls.log t.turn.0.order o,
-        )
-
-    unheard_at : (a : At K C) → new.at ≡ a → leads_at a ≡ led.Purges → (tries : List AttemptRecord)
-        → (other : HttpSession) → (e : Error) → IsOpening allows mark_of old context client tries
-        → IsOwing allows mark_of new other (owing.Ahead (Some e))
-    unheard_at (at.Kept kept) is leads tries other e o = cc
-    unheard_at (at.Opening p) is leads tries other e o = unheard_by p is leads tries other e o
-    unheard_at (at.Named peer) is leads tries other e o = cc
-    unheard_at (at.Repeatable error) is leads tries other e o = cc
-    unheard_at at.Warning is leads tries other e o = cc
-    unheard_at at.Linked is leads tries other e o = cc
-    unheard_at (at.Treated error) is leads tries other e o = cc
-    unheard_at (at.Closing held there) is leads tries other e o = cc
-
-    pub purged_owing : leads_at new.at ≡ led.Purges → (tries : List AttemptRecord) → (other : HttpSession) → (e : Error)
-        → IsOpening allows mark_of old context client tries
-        → IsOwing allows mark_of new other (owing.Ahead (Some e))
-    purged_owing leads tries other e o = unheard_at new.at refl leads tries other e o
-
--- ---- the answer to an error
-
--- the answer to the error with which hooks stopped a request is all that waits
-pub stop_text : (old new : Writing) (head : RequestHead) (e : Error)
-    → old.output ≡ outgoing.Open [] → old.request ≡ request_of head → old.place ≡ stands.NoHead
-    → QueuesAnswer old.output e old new
-    → new.output ≡ outgoing.Open (answer_for (request_of head) stands.NoHead e)
-stop_text old new head e is request place queues =
-    let queued : QueuesAnswer (outgoing.Open []) e old new =
-    subst (λ (o : Outgoing). QueuesAnswer o e old new) is queues in
-    queued
-    ∙ ap (λ (r : Request). outgoing.Open (answer_for r old.place e)) request
-    ∙ ap (λ (p : stage.Place). outgoing.Open (answer_for (request_of head) p e)) place

@@ -41,7 +41,7 @@ use Rattle.relay_closing.specs.declared.place.Place.{Place}
 use Rattle.relay_closing.specs.declared.place.Place.TheVariants as closing
 use Rattle.relay_closing.specs.declared.place.Stage.{Stage}
 use Rattle.relay_closing.specs.declared.place.Stage.TheVariants as stage
-use Rattle.relay_proxy.specs.Calls.{CallsSoFar, BreaksAt, CameIn, CountsCalls, EndsBy, HasAnswered, HasClosed, HasCome, HasFinished, IsBreaking, IsLackingCalls, IsLogged, IsOpening, IsOwing, IsRelayingCalls, IsUnended, IsUnheard, KeepsCalls, KeepsValue, Owing, OwesIn, ShowsSame, StandsAt, StandsBy, closed_with, ended_with, log_of, seen_with, station_at, treated_at}
+use Rattle.relay_proxy.specs.Calls.{CallsSoFar, BreaksAt, CameIn, CountsCalls, EndsBy, HasAnswered, HasClosed, HasCome, HasFinished, IsBreaking, IsLackingCalls, IsLogged, IsOpening, IsOwing, IsRelayingCalls, IsUnended, KeepsCalls, KeepsValue, Owing, OwesIn, ShowsSame, StandsAt, StandsBy, closed_with, ended_with, log_of, seen_with, station_at, treated_at}
 use Rattle.relay_proxy.specs.ClosingHooks.{failed_with, stays_alive}
 use Rattle.relay_proxy.specs.Endings.{error_of}
 use Rattle.relay_proxy.specs.Leaving.{WritesAhead}
@@ -186,7 +186,8 @@ module _ {C M K : Type 0} (allows : Standing → LogEntry → Type 0) (mark_of :
   ends_logged : (a : At K C) (calls : Calls M K C) (client : HttpSession) (e : Option Error)
       → EndsBy allows mark_of a calls client e → (at : Station) × IsLogged allows (log_of calls) at
   ends_logged (at.Kept kept) calls client e ends = absurd ends
-  ends_logged (at.Opening there) calls client e ends = ends.0
+  ends_logged (at.Opening there) calls client e ends = absurd ends
+  ends_logged (at.Purging action) calls client e ends = absurd ends
   ends_logged (at.Named peer) calls client e ends = absurd ends
   ends_logged (at.Repeatable treated) calls client e ends = absurd ends
   ends_logged at.Warning calls client e ends = absurd ends
@@ -278,8 +279,8 @@ module _ {C M K : Type 0} (allows : Standing → LogEntry → Type 0) (mark_of :
       → EndsBy allows mark_of a calls client e
       → EndsBy allows mark_of (ended_with a e) now left e
   ends_shown (at.Kept kept) calls now client left e shown same ends = absurd ends
-  ends_shown (at.Opening there) calls now client left e shown same ends =
-      subst (λ (l : List LogEntry). IsUnheard allows l) (sym (ap (λ (k : Seen). k.log) shown)) ends
+  ends_shown (at.Opening there) calls now client left e shown same ends = absurd ends
+  ends_shown (at.Purging action) calls now client left e shown same ends = absurd ends
   ends_shown (at.Named peer) calls now client left e shown same ends = absurd ends
   ends_shown (at.Repeatable treated) calls now client left e shown same ends = absurd ends
   ends_shown at.Warning calls now client left e shown same ends = absurd ends
@@ -302,7 +303,8 @@ module _ {C M K : Type 0} (allows : Standing → LogEntry → Type 0) (mark_of :
       → ShowsSame left client → EndsBy allows mark_of a calls client e
       → EndsBy allows mark_of a calls left e
   ends_waiting (at.Kept kept) calls client left e same ends = absurd ends
-  ends_waiting (at.Opening there) calls client left e same ends = ends
+  ends_waiting (at.Opening there) calls client left e same ends = absurd ends
+  ends_waiting (at.Purging action) calls client left e same ends = absurd ends
   ends_waiting (at.Named peer) calls client left e same ends = absurd ends
   ends_waiting (at.Repeatable treated) calls client left e same ends = absurd ends
   ends_waiting at.Warning calls client left e same ends = absurd ends
@@ -374,8 +376,9 @@ module _ {C M K : Type 0} (allows : Standing → LogEntry → Type 0) (mark_of :
       → EndsBy allows mark_of a calls client None
       → EndsBy allows mark_of (ended_with a (Some x)) now left (Some x)
   ends_failed (at.Kept kept) calls now client left x shown same order open_to ends = absurd ends
-  ends_failed (at.Opening there) calls now client left x shown same order open_to ends =
-      subst (λ (l : List LogEntry). IsUnheard allows l) (sym (ap (λ (k : Seen). k.log) shown)) ends
+  ends_failed (at.Opening there) calls now client left x shown same order open_to ends = absurd ends
+  ends_failed (at.Purging action) calls now client left x shown same order open_to ends =
+      absurd ends
   ends_failed (at.Named peer) calls now client left x shown same order open_to ends = absurd ends
   ends_failed (at.Repeatable treated) calls now client left x shown same order open_to ends =
       absurd ends

@@ -19,6 +19,8 @@ pub mod LastCalls
 pub mod NamedLemmas
 pub mod HookSteps
 pub mod PrepareSteps
+pub mod BesideLemmas
+pub mod PurgeSteps
 pub mod RelaySteps
 pub mod TreatLemmas
 pub mod AgainLemmas

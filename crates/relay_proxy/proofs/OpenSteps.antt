@@ -5,7 +5,7 @@
 --   left_on                        the head that the log tells is the session's
 --   none_tried                     no attempt was made
 --   stays_connecting               a call behind which the request goes on
---   hooks_answer, hooks_stop       calls that end it
+--   hooks_answer, purge_answers    calls that end it
 use Rattle.std.specs.Global.{Box}
 use Rattle.std.proofs.Common.{◌≡◌, ℕ, ◌+◌, ◌<◌, ◌≤◌, Bool, true, false, List, [], ◌∷◌, ◌++◌, length, drop, map, Option, Some, None, refl, sym, ap, subst, ◌∙◌, inl, inr, true≢false, arith, append-nil, unwrap_or, is_some}
 use Rattle.std.specs.List.{All}
@@ -16,10 +16,12 @@ use Rattle.relay_tasks.specs.Hooks.{same_hook}
 use Rattle.relay_tasks.specs.declared.hook.Hook.{Hook}
 use Rattle.relay_tasks.specs.declared.hook.Hook.TheVariants as hook
 use Rattle.relay_tasks.specs.declared.log.LogEntry.{LogEntry}
+use Rattle.relay_tasks.specs.declared.peer.PurgeAction.{PurgeAction}
 use Rattle.relay_tasks.specs.declared.task.HttpTask.{HttpTask}
 use Rattle.relay_links.specs.Link.{LinkState, LinkStart}
+use Rattle.relay_links.specs.Purger.{PurgerState}
 use Rattle.relay_session.specs.Reading.{head_of}
-use Rattle.relay_session.specs.Response.{GoesOnWith, Holds, HoldsOn, IsOpen, has_head, pending}
+use Rattle.relay_session.specs.Response.{AreQueued, GoesOnWith, Holds, HoldsOn, IsOpen, has_head, pending}
 use Rattle.relay_session.specs.TaskWire.{Sent, wire}
 use Rattle.relay_session.specs.declared.session.HttpSession.{HttpSession}
 use Rattle.relay_session.specs.Asked.{request_of}
@@ -52,7 +54,10 @@ use Rattle.relay_h1.proofs.VerdictLemmas.{HasRequest-IsOpen}
 use Rattle.relay_peer.proofs.FaultLemmas.{grew_same}
 use Rattle.relay_proxy.specs.Calls.{log_of, seen_with}
 use Rattle.relay_closing.specs.Queued.{QueuesOnce}
-use Rattle.relay_proxy.specs.Ahead.{IsAnswerOf, IsOwedAhead, IsStoppedFor}
+use Rattle.relay_purging.specs.Purging.{PurgesOnce}
+use Rattle.relay_purging.specs.Queued.{lone_head}
+use Rattle.relay_purging.specs.declared.turn.End.TheVariants as purging
+use Rattle.relay_proxy.specs.Ahead.{IsAnswerOf, IsOwedAhead, IsStoppedFor, ends_purge}
 use Rattle.relay_proxy.specs.Owed.{IsAnsweredCalmly, TellsAgain}
 use Rattle.relay_proxy.specs.Endings.{IsReusableAhead, IsInOrder, AttemptsFailed, AttemptsUnlinked, EndsAhead, EndsUnlinked, MadeAhead, MadeNone}
 use Rattle.relay_proxy.specs.Passed.{World, Start, asked, closed_to, opened_to, origin_of, IsUnsent, TellsClient}
@@ -349,45 +354,54 @@ waits_for request new tasks waiting own holds is_open =
       closes = sym (ap (λ (k : Sent). k.closes) sent);
     }
 
--- the tasks that a hook queued are an answer of that request, and their text waits
-record IsAnswerWaiting (request : Request) (wrote : List HttpTask) (waiting : List ℕ)
+-- the tasks that these calls queued are an answer of that request, and their text waits
+record IsAnswerWaiting (called : List LogEntry) (request : Request) (waiting : List ℕ)
     (new : Writing) : Type 0 where
   tasks : List HttpTask
-  is_answer : IsAnswerOf request wrote tasks
+  is_answer : IsAnswerOf called request tasks
   waits : Waits request tasks waiting new
 
+-- with one call more it is that one which may have filtered the answer of a purge
+ends_purge_append : (log : List LogEntry) (e : LogEntry)
+    → ends_purge (log ++ e ∷ []) ≡ same_hook hook.PurgeResponseFilter e.hook
+ends_purge_append [] e = refl
+ends_purge_append (x ∷ []) e = refl
+ends_purge_append (x ∷ y ∷ log) e = ends_purge_append (y ∷ log) e
+
 -- what a hook queued that answered the request is an answer of it
-answer_queued : (old new : Writing) (wrote : List HttpTask) (waiting : List ℕ)
-    → Holds old [] [] → QueuesAnswer old new wrote → new.output ≡ outgoing.Open waiting
-    → IsAnswerWaiting old.request wrote waiting new
-answer_queued old new wrote waiting holds queues is_open =
+answer_queued : (called : List LogEntry) (old new : Writing) (waiting : List ℕ)
+    → ends_purge called ≡ false → Holds old [] [] → QueuesAnswer old new (wrote_in called)
+    → new.output ≡ outgoing.Open waiting → IsAnswerWaiting called old.request waiting new
+answer_queued called old new waiting plain holds queues is_open =
     record {
-      tasks = wrote;
-      is_answer = IsAnswerOf.as_queued (inl queues.whole);
-      waits = waits_for old.request new wrote waiting queues.answers_to
+      tasks = wrote_in called;
+      is_answer = IsAnswerOf.as_queued plain (inl queues.whole);
+      waits = waits_for old.request new (wrote_in called) waiting queues.answers_to
           (queues.queued [] [] holds) is_open;
     }
 
 -- and so is what a hook queued that declined it, with the 502 behind it where there was no head
-declined_queued : (has : Bool) (left new : Writing) (wrote : List HttpTask) (waiting : List ℕ)
-    → has_head left.place ≡ has → Holds left wrote [] → Completes has left new
-    → new.output ≡ outgoing.Open waiting → IsAnswerWaiting left.request wrote waiting new
-declined_queued true left new wrote waiting has holds same is_open =
+declined_queued : (has : Bool) (called : List LogEntry) (left new : Writing) (waiting : List ℕ)
+    → has_head left.place ≡ has → ends_purge called ≡ false → Holds left (wrote_in called) []
+    → Completes has left new → new.output ≡ outgoing.Open waiting
+    → IsAnswerWaiting called left.request waiting new
+declined_queued true called left new waiting has plain holds same is_open =
     record {
-      tasks = wrote;
-      is_answer = IsAnswerOf.as_queued
-          (inr (ap (λ (p : Place). has_head p) (leads_to left wrote holds) ∙ has));
-      waits = waits_for left.request new wrote waiting (ap (λ (w : Writing). w.request) same)
-          (subst (λ (w : Writing). Holds w wrote []) (sym same) holds) is_open;
+      tasks = wrote_in called;
+      is_answer = IsAnswerOf.as_queued plain
+          (inr (ap (λ (p : Place). has_head p) (leads_to left (wrote_in called) holds) ∙ has));
+      waits = waits_for left.request new (wrote_in called) waiting
+          (ap (λ (w : Writing). w.request) same)
+          (subst (λ (w : Writing). Holds w (wrote_in called) []) (sym same) holds) is_open;
     }
-declined_queued false left new wrote waiting has holds queued is_open =
+declined_queued false called left new waiting has plain holds queued is_open =
     record {
-      tasks = wrote ++ lone_answer 502;
-      is_answer = IsAnswerOf.with_502
-          (ap (λ (p : Place). has_head p) (leads_to left wrote holds) ∙ has);
-      waits = waits_for left.request new (wrote ++ lone_answer 502) waiting
-          (ap (λ (w : Writing). w.request) queued.grows.grown) (queued.goes_on wrote [] holds)
-          is_open;
+      tasks = wrote_in called ++ lone_answer 502;
+      is_answer = IsAnswerOf.with_502 plain
+          (ap (λ (p : Place). has_head p) (leads_to left (wrote_in called) holds) ∙ has);
+      waits = waits_for left.request new (wrote_in called ++ lone_answer 502) waiting
+          (ap (λ (w : Writing). w.request) queued.grows.grown)
+          (queued.goes_on (wrote_in called) [] holds) is_open;
     }
 
 -- hooks that ended so answered the request
@@ -400,19 +414,22 @@ AnswersAs (end.Unwritten why) = ⊥
 AnswersAs (end.Failed error) = ⊥
 
 -- what they queued is an answer of it
-hooks_queued : (how : End) (old new : Writing) (wrote : List HttpTask) (waiting : List ℕ)
-    → AnswersAs how → Holds old [] [] → QueuesAtEnd how old new wrote
-    → new.output ≡ outgoing.Open waiting → IsAnswerWaiting old.request wrote waiting new
-hooks_queued end.Attempts old new wrote waiting ends holds queues is_open = absurd ends
-hooks_queued end.Answered old new wrote waiting ends holds queues is_open =
-    answer_queued old new wrote waiting holds queues is_open
-hooks_queued end.Purge old new wrote waiting ends holds queues is_open = absurd ends
-hooks_queued end.Declined old new wrote waiting ends holds queues is_open =
-    subst (λ (r : Request). IsAnswerWaiting r wrote waiting new) queues.answers_to
-    (declined_queued (has_head queues.left.place) queues.left new wrote waiting refl
+hooks_queued : (how : End) (called : List LogEntry) (old new : Writing) (waiting : List ℕ)
+    → AnswersAs how → ends_purge called ≡ false → Holds old [] []
+    → QueuesAtEnd how old new (wrote_in called) → new.output ≡ outgoing.Open waiting
+    → IsAnswerWaiting called old.request waiting new
+hooks_queued end.Attempts called old new waiting ends plain holds queues is_open = absurd ends
+hooks_queued end.Answered called old new waiting ends plain holds queues is_open =
+    answer_queued called old new waiting plain holds queues is_open
+hooks_queued end.Purge called old new waiting ends plain holds queues is_open = absurd ends
+hooks_queued end.Declined called old new waiting ends plain holds queues is_open =
+    subst (λ (r : Request). IsAnswerWaiting called r waiting new) queues.answers_to
+    (declined_queued (has_head queues.left.place) called queues.left new waiting refl plain
     (queues.queued [] [] holds) queues.completed is_open)
-hooks_queued (end.Unwritten why) old new wrote waiting ends holds queues is_open = absurd ends
-hooks_queued (end.Failed error) old new wrote waiting ends holds queues is_open = absurd ends
+hooks_queued (end.Unwritten why) called old new waiting ends plain holds queues is_open =
+    absurd ends
+hooks_queued (end.Failed error) called old new waiting ends plain holds queues is_open =
+    absurd ends
 
 -- the client is owed what waits, and the session tells whether it may ask for more behind that
 pub record HooksAnswer (s : Start) (p : Passed) (left : HttpSession) (waiting : List ℕ)
@@ -426,16 +443,23 @@ pub hooks_answer : {M K X : Type 0} (allows : Standing → LogEntry → Type 0) 
     (s : Start) (p : Passed) (w : World) (tries : List AttemptRecord) (waiting : List ℕ)
     → Turns allows which from (end_station how) (QueuesAtEnd how) (seen_with c client) mark
     (seen_with d left) behind
-    → AnswersAs how → end_station how ≡ station.answered
-    → Accepts station.accepted (log_of d) (end_station how)
+    → AnswersAs how → same_hook hook.PurgeResponseFilter which ≡ false
+    → end_station how ≡ station.answered → Accepts station.accepted (log_of d) (end_station how)
     → left.writing.output ≡ outgoing.Open waiting
     → IsConnecting (opened_to s (log_of c)) p w client tries
     → HooksAnswer (opened_to s (log_of d)) p left waiting
-hooks_answer allows c d client left mark behind which from how s p w tries waiting t ends at order
-    is_open k =
+hooks_answer allows c d client left mark behind which from how s p w tries waiting t ends other at
+    order is_open k =
     let begins = k.begins k.head false in
-    let answer = hooks_queued how client.writing left.writing t.e.wrote waiting ends begins.response
-    t.queued is_open in
+    let plain : ends_purge (log_of d) ≡ false =
+    ap (λ (l : List LogEntry). ends_purge l) t.calls.log
+    ∙ ends_purge_append (log_of c) t.e
+    ∙ ap (λ (h : Hook). same_hook hook.PurgeResponseFilter h) t.hook ∙ other in
+    let answer = hooks_queued how (log_of d) client.writing left.writing waiting ends plain
+    begins.response
+    (subst (λ (l : List HttpTask). QueuesAtEnd how client.writing left.writing l)
+    (sym (wrote_on allows c d client left mark behind which from (end_station how)
+    (QueuesAtEnd how) t k.quiet)) t.queued) is_open in
     let request : client.writing.request ≡ request_of k.head =
     begins.answers ∙ ap (λ (h : RequestHead). request_of h) begins.own in
     let waits : Waits (request_of k.head) answer.tasks waiting left.writing =
@@ -444,14 +468,51 @@ hooks_answer allows c d client left mark behind which from how s p w tries waiti
       owed = IsOwedAhead.by_answer k.head answer.tasks waiting
           (called_accepted s (log_of c) (log_of d) p k.head k.accepted)
           (subst (λ (at : Station). Accepts station.accepted (log_of d) at) at order)
-          (subst (λ (l : List HttpTask). IsAnswerOf (request_of k.head) l answer.tasks)
-          (sym (wrote_on allows c d client left mark behind which from (end_station how)
-          (QueuesAtEnd how) t k.quiet))
-          (subst (λ (r : Request). IsAnswerOf r t.e.wrote answer.tasks) request answer.is_answer))
+          (subst (λ (r : Request). IsAnswerOf (log_of d) r answer.tasks) request answer.is_answer)
           waits.text;
       tells = λ none. record {
         request = waits.own;
         done = reads_done (seen_with c client) (seen_with d left) t.calls.reads ∙ k.unread none;
+        place = waits.place;
+        closes = waits.closes;
+      };
+    }
+
+-- the purger was asked, and its answer is what waits: its client is owed that
+pub purge_answers : {M K X : Type 0} (allows : Standing → LogEntry → Type 0) (c d : Calls M K X)
+    (client left : HttpSession) (mark behind : ℕ) (action : PurgeAction)
+    (asked told : PurgerState) (s : Start) (p : Passed) (w : World) (tries : List AttemptRecord)
+    (waiting : List ℕ)
+    → PurgesOnce allows action asked told (seen_with c client) mark (seen_with d left) behind
+    purging.Answered
+    → Accepts station.accepted (log_of d) station.answered
+    → left.writing.output ≡ outgoing.Open waiting
+    → IsConnecting (opened_to s (log_of c)) p w client tries
+    → HooksAnswer (opened_to s (log_of d)) p left waiting
+purge_answers allows c d client left mark behind action asked told s p w tries waiting once order
+    is_open k =
+    let begins = k.begins k.head false in
+    let queued : AreQueued client.writing (lone_head once.head) left.writing =
+    once.turn.queued.queued in
+    let waits : Waits (request_of k.head) (lone_head once.head) waiting left.writing =
+    waits_for (request_of k.head) left.writing (lone_head once.head) waiting
+    (ap (λ (x : Writing). x.request) queued.grows.grown ∙ begins.answers
+    ∙ ap (λ (h : RequestHead). request_of h) begins.own)
+    (queued.goes_on [] [] begins.response) is_open in
+    record {
+      owed = IsOwedAhead.by_answer k.head (lone_head once.head) waiting
+          (called_accepted s (log_of c) (log_of d) p k.head k.accepted) order
+          (IsAnswerOf.of_purge once.head (record {
+            before = log_of c;
+            last = once.turn.e;
+            is_last = once.turn.calls.log;
+            is_filter = once.turn.hook;
+            told = once.told;
+          }) once.bodiless) waits.text;
+      tells = λ none. record {
+        request = waits.own;
+        done = reads_done (seen_with c client) (seen_with d left) once.turn.calls.reads
+            ∙ k.unread none;
         place = waits.place;
         closes = waits.closes;
       };
@@ -494,8 +555,6 @@ nothing_again s p why text (IsOwedAhead.by_answer head tasks t accepted order is
     none may =
     may.some (sym is ∙ none)
 nothing_again s p why text (IsOwedAhead.by_error head e t accepted stopped told is) ahead none may =
-    may
-nothing_again s p why text (IsOwedAhead.by_purge head e t accepted order same is) ahead none may =
     may
 
 -- how one ends that is owed nothing

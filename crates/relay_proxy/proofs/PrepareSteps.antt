@@ -36,6 +36,7 @@ use Rattle.relay_session.specs.Response.{has_head}
 use Rattle.relay_session.specs.declared.writing.Writing.{Writing}
 use Rattle.relay_session.specs.declared.session.HttpSession.{HttpSession}
 use Rattle.relay_modules.specs.declared.seen.Seen.{Seen}
+use Rattle.relay_hooks.specs.Session.{request_head}
 use Rattle.relay_hooks.specs.Standing.{Standing}
 use Rattle.relay_phases.specs.Order.{Accepts, Station}
 use Rattle.relay_phases.specs.Order.{Station as station}
@@ -343,7 +344,7 @@ module _ {L C M K : Type 0} (state : L → LinkState) (start_at : L → LinkStar
     (c : Calls M K C) (s : Start) (p : Passed) (w : World) (context : C) (session : Box HttpSession)
     (link : L) (lease : Lease) (handed : IsHandedOut (state link) (start_at link) lease.reused)
     (was : c.at ≡ at.Named lease.peer) (same : lease.recorded ≡ lease.peer)
-    (tells : TellsPeer c.at (log_of c))
+    (tells : TellsPeer c.at (log_of c) (request_head (seen_with c session.value)))
     (run : RunSoFar {C = C} state start_at (opened_to s (log_of c)) p w []
     (Connect context session (tries_in lease)))
   where
@@ -351,7 +352,8 @@ module _ {L C M K : Type 0} (state : L → LinkState) (start_at : L → LinkStar
     abbrev pub holds_link : RunSoFar {C = C} state start_at (opened_to s (log_of c)) p w []
         (Prepare context session link lease)
     holds_link = linked state start_at (opened_to s (log_of c)) p w context session link lease handed
-        (subst (λ (a : At K C). TellsPeer a (log_of c)) was tells) same run
+        (subst (λ (a : At K C). TellsPeer a (log_of c) (request_head (seen_with c session.value))) was
+        tells) same run
 
     -- memory was wanted
     pub told_lost : (d : Calls M K C) → log_of d ≡ log_of c
@@ -366,7 +368,7 @@ module _ {L C M K : Type 0} (state : L → LinkState) (start_at : L → LinkStar
     (p : Passed) (w : World) (context : C) (session : Box HttpSession) (left : HttpSession)
     (link : L) (lease : Lease) (handed : IsHandedOut (state link) (start_at link) lease.reused)
     (was : c.at ≡ at.Named lease.peer) (same : lease.recorded ≡ lease.peer)
-    (tells : TellsPeer c.at (log_of c))
+    (tells : TellsPeer c.at (log_of c) (request_head (seen_with c session.value)))
     (run : RunSoFar {C = C} state start_at (opened_to s (log_of c)) p w []
     (Connect context session (tries_in lease)))
   where
@@ -548,7 +550,8 @@ module _ {C M K : Type 0} (allows : Standing → LogEntry → Type 0) (mark_of :
           turn.order
           (subst (λ (a : At K C). Accepts station.accepted (log_of c) (station_at a)) was o.order));
       goes = subst (λ (a : At K C). GoesOn a) (sym is) tt;
-      named = subst (λ (a : At K C). TellsPeer a (log_of d)) (sym is) tt;
+      named = subst (λ (a : At K C). TellsPeer a (log_of d) (request_head (seen_with d left)))
+          (sym is) tt;
       untried = λ still.
           absurd (true≢false (sym still ∙ ap (λ (a : At K C). is_before a) is));
       untreated = untreated_more (log_of c) (log_of d) turn.e hook.ConnectedToUpstream

@@ -109,5 +109,3 @@ may_exactly why text (IsOwedAhead.by_answer head tasks t has order is_answer is)
 may_exactly why text (IsOwedAhead.by_error head e t has stopped told is) session ahead none some
     tells =
     absurd (cc)
-may_exactly why text (IsOwedAhead.by_purge head e t has order same is) session ahead none some tells =
-    absurd (cc)

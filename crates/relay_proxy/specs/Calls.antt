@@ -2,11 +2,13 @@
 -- stand (RFC 9110, section 3.7).
 use Rattle.std.specs.Prelude.{◌≡◌, ℕ, ◌+◌, ◌≤◌, ◌⊎◌, Bool, IsSome, IsTrue, true, false, not, is_some, length, List, [], ◌∷◌, ◌++◌, Option, Some, None, if◌then◌else◌}
 use Rattle.relay_tasks.specs.Error.{may_retry}
+use Rattle.relay_tasks.specs.Head.{RequestHead}
 use Rattle.relay_tasks.specs.declared.Error.{Error}
 use Rattle.relay_tasks.specs.declared.hook.Hook.{Hook}
 use Rattle.relay_tasks.specs.declared.hook.Hook.TheVariants as hook
 use Rattle.relay_tasks.specs.declared.log.Item.TheVariants as item
 use Rattle.relay_tasks.specs.declared.log.LogEntry.{LogEntry}
+use Rattle.relay_tasks.specs.declared.peer.PurgeAction.{PurgeAction}
 use Rattle.std.specs.List.{list_any}
 use Rattle.relay_session.specs.Reading.{head_of, is_truncated}
 use Rattle.relay_session.specs.Response.{has_head}
@@ -16,7 +18,7 @@ use Rattle.relay_tasks.specs.declared.Fault.{Fault}
 use Rattle.relay_modules.specs.Module.{ModuleCall}
 use Rattle.relay_modules.specs.declared.seen.Seen.{Seen}
 use Rattle.relay_hooks.specs.Call.{failure}
-use Rattle.relay_hooks.specs.Session.{moment}
+use Rattle.relay_hooks.specs.Session.{moment, request_head}
 use Rattle.relay_hooks.specs.Standing.{Standing, standing}
 use Rattle.relay_calls.specs.Log.{IsAllowed, Walk}
 use Rattle.relay_phases.specs.Order.{Accepts, Station, accepted, sent}
@@ -41,7 +43,7 @@ use Rattle.relay_closing.specs.declared.place.Place.TheVariants as closing
 use Rattle.relay_closing.specs.declared.place.Stage.{Stage}
 use Rattle.relay_closing.specs.declared.place.Stage.TheVariants as stage
 use Rattle.relay_proxy.specs.Ahead.{LastFails}
-use Rattle.relay_proxy.specs.ClosingHooks.{IsLeftUnheard, calls_next, error_to, failed_with, given, has_begun, is_gone, kept_in, stays_alive}
+use Rattle.relay_proxy.specs.ClosingHooks.{calls_next, error_to, failed_with, given, has_begun, is_gone, kept_in, stays_alive}
 use Rattle.relay_proxy.specs.Named.{IsNamed}
 use Rattle.relay_proxy.specs.Passed.{begins_end}
 use Rattle.relay_proxy.specs.Sent.{IsTreated, IsUntreated}
@@ -83,7 +85,7 @@ abbrev pub next_after : {K : Type 0} → Place K → Bool → Option Hook
 next_after (place.Behind last) has_modules = Some (next_hook last has_modules)
 next_after (place.Ended end.Attempts) has_modules = Some hook.UpstreamPeer
 next_after (place.Ended end.Answered) has_modules = None
-next_after (place.Ended end.Purge) has_modules = None
+next_after (place.Ended end.Purge) has_modules = Some hook.PurgeAction
 next_after (place.Ended end.Declined) has_modules = None
 next_after (place.Ended (end.Unwritten why)) has_modules = None
 next_after (place.Ended (end.Failed error)) has_modules = None
@@ -92,6 +94,7 @@ next_after place.Lost has_modules = None
 abbrev pub comes_next : {K X : Type 0} → At K X → Bool → Option Hook
 comes_next (at.Kept kept) has_modules = None
 comes_next (at.Opening there) has_modules = next_after there has_modules
+comes_next (at.Purging action) has_modules = None
 comes_next (at.Named peer) has_modules = None
 comes_next (at.Repeatable error) has_modules = Some hook.SuppressProxyWarnLog
 comes_next at.Warning has_modules = Some hook.RequestSummary
@@ -118,6 +121,7 @@ failed_at place.Lost = None
 abbrev pub final_at : {K X : Type 0} → At K X → Option Error
 final_at (at.Kept kept) = None
 final_at (at.Opening there) = failed_at there
+final_at (at.Purging action) = None
 final_at (at.Named peer) = None
 final_at (at.Repeatable error) = None
 final_at at.Warning = None
@@ -129,6 +133,7 @@ final_at (at.Closing held there) = None
 abbrev pub treated_at : {K X : Type 0} → At K X → Option Error
 treated_at (at.Kept kept) = None
 treated_at (at.Opening there) = None
+treated_at (at.Purging action) = None
 treated_at (at.Named peer) = None
 treated_at (at.Repeatable error) = None
 treated_at at.Warning = None
@@ -136,10 +141,23 @@ treated_at at.Linked = None
 treated_at (at.Treated error) = Some error
 treated_at (at.Closing held there) = None
 
+-- what a purge does, where the purger is asked for it next
+abbrev pub purge_at : {K X : Type 0} → At K X → Option PurgeAction
+purge_at (at.Kept kept) = None
+purge_at (at.Opening there) = None
+purge_at (at.Purging action) = Some action
+purge_at (at.Named peer) = None
+purge_at (at.Repeatable error) = None
+purge_at at.Warning = None
+purge_at at.Linked = None
+purge_at (at.Treated error) = None
+purge_at (at.Closing held there) = None
+
 -- a hook of the end is called next; `goes_back` says that the client may ask for more
 abbrev pub has_last : {K X : Type 0} → At K X → Bool → Bool
 has_last (at.Kept kept) goes_back = false
 has_last (at.Opening there) goes_back = false
+has_last (at.Purging action) goes_back = false
 has_last (at.Named peer) goes_back = false
 has_last (at.Repeatable error) goes_back = false
 has_last at.Warning goes_back = false
@@ -151,6 +169,7 @@ has_last (at.Closing held there) goes_back = calls_next there goes_back
 abbrev pub is_closing_at : {K X : Type 0} → At K X → Bool
 is_closing_at (at.Kept kept) = false
 is_closing_at (at.Opening there) = false
+is_closing_at (at.Purging action) = false
 is_closing_at (at.Named peer) = false
 is_closing_at (at.Repeatable error) = false
 is_closing_at at.Warning = false
@@ -162,6 +181,7 @@ is_closing_at (at.Closing held there) = true
 abbrev pub is_lost_at : {K X : Type 0} → At K X → Bool
 is_lost_at (at.Kept kept) = false
 is_lost_at (at.Opening there) = false
+is_lost_at (at.Purging action) = false
 is_lost_at (at.Named peer) = false
 is_lost_at (at.Repeatable error) = false
 is_lost_at at.Warning = false
@@ -173,6 +193,7 @@ is_lost_at (at.Closing held there) = is_lost there
 abbrev pub ended_with : {K X : Type 0} → At K X → Option Error → At K X
 ended_with (at.Kept kept) error = at.Kept kept
 ended_with (at.Opening there) error = at.Opening there
+ended_with (at.Purging action) error = at.Purging action
 ended_with (at.Named peer) error = at.Named peer
 ended_with (at.Repeatable treated) error = at.Repeatable treated
 ended_with at.Warning error = at.Warning
@@ -191,6 +212,7 @@ closed_with calls client error = record {
 abbrev pub given_at : {K X : Type 0} → At K X → Outcome → Outcome
 given_at (at.Kept kept) came = came
 given_at (at.Opening there) came = came
+given_at (at.Purging action) came = came
 given_at (at.Named peer) came = came
 given_at (at.Repeatable error) came = came
 given_at at.Warning came = came
@@ -202,6 +224,7 @@ given_at (at.Closing held there) came = given there came
 abbrev pub kept_at : {K X : Type 0} → At K X → Option K
 kept_at (at.Kept kept) = None
 kept_at (at.Opening there) = None
+kept_at (at.Purging action) = None
 kept_at (at.Named peer) = None
 kept_at (at.Repeatable error) = None
 kept_at at.Warning = None
@@ -209,12 +232,21 @@ kept_at at.Linked = None
 kept_at (at.Treated error) = None
 kept_at (at.Closing held there) = kept_in there
 
--- a hook before the attempts is called next
+-- a hook before the attempts is called next; those of a purge are too
+abbrev pub goes_before : {K : Type 0} → Place K → Bool
+goes_before (place.Behind last) = true
+goes_before (place.Ended end.Attempts) = false
+goes_before (place.Ended end.Answered) = false
+goes_before (place.Ended end.Purge) = true
+goes_before (place.Ended end.Declined) = false
+goes_before (place.Ended (end.Unwritten why)) = false
+goes_before (place.Ended (end.Failed error)) = false
+goes_before place.Lost = false
+
 abbrev pub is_before : {K X : Type 0} → At K X → Bool
 is_before (at.Kept kept) = false
-is_before (at.Opening (place.Behind last)) = true
-is_before (at.Opening (place.Ended how)) = false
-is_before (at.Opening place.Lost) = false
+is_before (at.Opening there) = goes_before there
+is_before (at.Purging action) = true
 is_before (at.Named peer) = false
 is_before (at.Repeatable error) = false
 is_before at.Warning = false
@@ -231,6 +263,7 @@ place_station place.Lost = station.accepted
 abbrev pub station_at : {K X : Type 0} → At K X → Station
 station_at (at.Kept kept) = station.accepted
 station_at (at.Opening there) = place_station there
+station_at (at.Purging action) = station.purged
 station_at (at.Named peer) = station.named
 station_at (at.Repeatable error) = station.repeatable
 station_at at.Warning = station.warning
@@ -244,7 +277,7 @@ abbrev pub Goes : {K : Type 0} → Place K → Type 0
 Goes (place.Behind last) = Unit {0}
 Goes (place.Ended end.Attempts) = Unit {0}
 Goes (place.Ended end.Answered) = ⊥
-Goes (place.Ended end.Purge) = ⊥
+Goes (place.Ended end.Purge) = Unit {0}
 Goes (place.Ended end.Declined) = ⊥
 Goes (place.Ended (end.Unwritten why)) = ⊥
 Goes (place.Ended (end.Failed error)) = Unit {0}
@@ -253,6 +286,7 @@ Goes place.Lost = ⊥
 abbrev pub GoesOn : {K X : Type 0} → At K X → Type 0
 GoesOn (at.Kept kept) = ⊥
 GoesOn (at.Opening there) = Goes there
+GoesOn (at.Purging action) = Unit {0}
 GoesOn (at.Named peer) = Unit {0}
 GoesOn (at.Repeatable error) = Unit {0}
 GoesOn at.Warning = Unit {0}
@@ -265,23 +299,34 @@ abbrev pub TellsError : Option Error → List LogEntry → Type 0
 TellsError None log = Unit {0}
 TellsError (Some error) log = LastFails log error
 
--- the peer that was named is the one that the log tells, and so is the error of a hook
-abbrev pub TellsPeer : {K X : Type 0} → At K X → List LogEntry → Type 0
-TellsPeer (at.Kept kept) log = Unit {0}
-TellsPeer (at.Opening there) log = TellsError (failed_at there) log
-TellsPeer (at.Named peer) log = IsNamed log peer
-TellsPeer (at.Repeatable error) log = Unit {0}
-TellsPeer at.Warning log = Unit {0}
-TellsPeer at.Linked log = Unit {0}
-TellsPeer (at.Treated error) log = Unit {0}
-TellsPeer (at.Closing held there) log = Unit {0}
+-- the last call asked what a purge of the request with that head does, and it is that
+pub record LastAsks (log : List LogEntry) (action : PurgeAction) (head : RequestHead) : Type 0 where
+  pub before : List LogEntry
+  pub last : LogEntry
+  pub is_last : log ≡ before ++ last ∷ []
+  pub asks : last.hook ≡ hook.PurgeAction
+  pub input : last.input ≡ item.Request head
+  pub output : last.output ≡ item.Action action
 
--- what a call led to, by where the hooks stand behind it; a purge is not done so far
+-- the peer that was named is the one that the log tells, and so is the error of a hook, and what a
+-- purge does of the request with that head
+abbrev pub TellsPeer : {K X : Type 0} → At K X → List LogEntry → RequestHead → Type 0
+TellsPeer (at.Kept kept) log head = Unit {0}
+TellsPeer (at.Opening there) log head = TellsError (failed_at there) log
+TellsPeer (at.Purging action) log head = LastAsks log action head
+TellsPeer (at.Named peer) log head = IsNamed log peer
+TellsPeer (at.Repeatable error) log head = Unit {0}
+TellsPeer at.Warning log head = Unit {0}
+TellsPeer at.Linked log head = Unit {0}
+TellsPeer (at.Treated error) log head = Unit {0}
+TellsPeer (at.Closing held there) log head = Unit {0}
+
+-- what a call led to, by where the hooks stand behind it
 abbrev pub leads_to : {K : Type 0} → Place K → Opened
 leads_to (place.Behind last) = led.GoesOn
 leads_to (place.Ended end.Attempts) = led.GoesOn
 leads_to (place.Ended end.Answered) = led.Answered
-leads_to (place.Ended end.Purge) = led.Purges
+leads_to (place.Ended end.Purge) = led.GoesOn
 leads_to (place.Ended end.Declined) = led.Answered
 leads_to (place.Ended (end.Unwritten why)) = led.OutOfMemory
 leads_to (place.Ended (end.Failed error)) = led.GoesOn
@@ -290,6 +335,7 @@ leads_to place.Lost = led.OutOfMemory
 abbrev pub leads_at : {K X : Type 0} → At K X → Opened
 leads_at (at.Kept kept) = led.OutOfMemory
 leads_at (at.Opening there) = leads_to there
+leads_at (at.Purging action) = led.GoesOn
 leads_at (at.Named peer) = led.GoesOn
 leads_at (at.Repeatable error) = led.GoesOn
 leads_at at.Warning = led.GoesOn
@@ -301,6 +347,7 @@ leads_at (at.Closing held there) = led.OutOfMemory
 abbrev pub IsToldOf : {K X : Type 0} → At K X → LogEntry → Type 0
 IsToldOf (at.Kept kept) e = Unit {0}
 IsToldOf (at.Opening there) e = Unit {0}
+IsToldOf (at.Purging action) e = Unit {0}
 IsToldOf (at.Named peer) e = Unit {0}
 IsToldOf (at.Repeatable error) e = e.input ≡ item.Failure error
 IsToldOf at.Warning e = Unit {0}
@@ -321,16 +368,27 @@ module _ (allows : Standing → LogEntry → Type 0) where
     pub told : IsToldOf here turn.e
     pub past : is_before to ≡ false
     pub goes : GoesOn to
-    pub tells : TellsPeer to new.log
+    pub tells : TellsPeer to new.log (request_head new)
 
-  -- from there the hook that comes next was called, and led to that: one before the attempts, or
-  -- one of an attempt; out of memory no entry is new, wherever it stood
+  -- the request is a purge, and it was asked what that does
+  pub record AsksPurge {K X : Type 0} (here : At K X) (old : Seen) (before : ℕ) (new : Seen)
+      (behind : ℕ) (to : At K X) : Type 0 where
+    pub is_here : here ≡ at.Opening (place.Ended end.Purge)
+    pub action : PurgeAction
+    pub is_to : to ≡ at.Purging action
+    pub turn : Turns allows hook.PurgeAction station.purging station.purged QueuesNothing old before
+        new behind
+    pub tells : LastAsks new.log action (request_head new)
+
+  -- from there the hook that comes next was called, and led to that: one before the attempts, the
+  -- first of a purge, or one of an attempt; out of memory no entry is new, wherever it stood
   pub data TakesNext {K X : Type 0} (here : At K X) (has_modules : Bool) (old : Seen) (before : ℕ)
       (new : Seen) (behind : ℕ) (to : At K X) : Type 0 where
     leads : is_before here ≡ true → (which : Hook) → comes_next here has_modules ≡ Some which
         → (there : Place K) → to ≡ at.Opening there
         → TurnsTo allows which (station_at here) old before new behind there
         → TakesNext here has_modules old before new behind to
+    asks : AsksPurge here old before new behind to → TakesNext here has_modules old before new behind to
     tried : CallsOfAttempt here has_modules old before new behind to
         → TakesNext here has_modules old before new behind to
     lost : to ≡ at.Opening place.Lost → new.log ≡ old.log
@@ -362,11 +420,6 @@ pub record IsLogged (allows : Standing → LogEntry → Type 0) (log : List LogE
 abbrev pub IsUnended : List LogEntry → Type 0
 IsUnended log = list_any (λ e. begins_end e.hook) log ≡ false
 
--- `logging` is not called so far of a purge
-abbrev pub IsUnheard : (Standing → LogEntry → Type 0) → List LogEntry → Type 0
-IsUnheard allows log =
-    ((at : Station) × IsLogged allows log at) × IsLeftUnheard log
-
 -- the last call asked what is kept for the next request of the connection, and a value is
 pub record KeepsValue (log : List LogEntry) : Type 0 where
   pub before : List LogEntry
@@ -386,6 +439,7 @@ pub record IsTreatedBefore (called : List LogEntry) (raised treated : Error) (cl
 abbrev pub BreaksAt : {K X : Type 0} → At K X → List LogEntry → Error → Station → Type 0
 BreaksAt (at.Kept kept) log error here = IsTrue (may_break here)
 BreaksAt (at.Opening there) log error here = IsTrue (may_break here)
+BreaksAt (at.Purging action) log error here = IsTrue (may_break here)
 BreaksAt (at.Named peer) log error here = IsTrue (may_break here)
 BreaksAt (at.Repeatable treated) log error here = IsTrue (may_break here)
 BreaksAt at.Warning log error here = IsTrue (may_break here)
@@ -461,10 +515,11 @@ module _ {C M K : Type 0} (allows : Standing → LogEntry → Type 0) (mark_of :
       (at : Station) × IsLogged allows (log_of calls) at
 
   -- the calls of a request that has ended with that error or without one, or is to be answered for
-  -- it: its end has begun; or it is a purge, which has no such end so far
+  -- it: its end has begun
   abbrev pub EndsBy : At K C → Calls M K C → HttpSession → Option Error → Type 0
   EndsBy (at.Kept kept) calls client error = ⊥
-  EndsBy (at.Opening there) calls client error = IsUnheard allows (log_of calls)
+  EndsBy (at.Opening there) calls client error = ⊥
+  EndsBy (at.Purging action) calls client error = ⊥
   EndsBy (at.Named peer) calls client error = ⊥
   EndsBy (at.Repeatable treated) calls client error = ⊥
   EndsBy at.Warning calls client error = ⊥
@@ -501,7 +556,7 @@ module _ {C M K : Type 0} (allows : Standing → LogEntry → Type 0) (mark_of :
         (standing None false (moment (seen_with calls client) (mark_of context)))
     pub order : Accepts accepted (log_of calls) (station_at calls.at)
     pub goes : GoesOn calls.at
-    pub named : TellsPeer calls.at (log_of calls)
+    pub named : TellsPeer calls.at (log_of calls) (request_head (seen_with calls client))
     -- as long as hooks before the attempts are called no attempt was made
     pub untried : is_before calls.at ≡ true → tries ≡ []
     -- of no attempt that had a link the error was treated but where another one followed

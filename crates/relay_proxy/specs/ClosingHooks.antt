@@ -7,7 +7,6 @@ use Rattle.relay_tasks.specs.declared.Error.{Error}
 use Rattle.relay_tasks.specs.declared.hook.Hook.TheVariants as hook
 use Rattle.relay_tasks.specs.declared.log.LogEntry.{LogEntry}
 use Rattle.relay_hooks.specs.Call.{failure}
-use Rattle.relay_phases.specs.Order.{Accepts, accepted, purging}
 use Rattle.relay_closing.specs.Closes.{logged_in}
 use Rattle.relay_closing.specs.Place.{error_of, is_lost, next_hook}
 use Rattle.relay_closing.specs.declared.place.Cause.TheVariants as cause
@@ -91,10 +90,6 @@ kept_in place.Lost = None
 
 -- ---- what `logging` was told
 
--- it is not called so far of a purge
-abbrev pub IsLeftUnheard : List LogEntry → Type 0
-IsLeftUnheard log = Accepts accepted log purging
-
 -- the client may be kept, as the calls of `logging` left the session's keepalive flag
 abbrev pub stays_alive : List LogEntry → Bool
 stays_alive log =
@@ -107,8 +102,7 @@ abbrev pub IsHeard : List LogEntry → Outcome → Type 0
 IsHeard log outcome.NoRequest = log ≡ []
 IsHeard log (outcome.Refused error) = log ≡ []
 IsHeard log (outcome.Served error reuse) =
-    ((logged_in log ≡ failure error ∷ []) × (reuse ≡ true → stays_alive log ≡ true))
-    ⊎ IsLeftUnheard log
+    (logged_in log ≡ failure error ∷ []) × (reuse ≡ true → stays_alive log ≡ true)
 IsHeard log outcome.TurnLimit = Unit {0}
 IsHeard log outcome.OutOfMemory = Unit {0}
 

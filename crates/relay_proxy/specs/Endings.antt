@@ -254,7 +254,6 @@ abbrev pub IsReusableAhead : {s : Start} {p : Passed} {why : Option Error} {text
 IsReusableAhead (IsOwedAhead.by_answer head tasks text accepted order is_answer is) ahead =
     IsReusableBehind head accepted.framing (wire (request_of head) stands.NoHead tasks) ahead
 IsReusableAhead (IsOwedAhead.by_error head e text accepted stopped told is) ahead = ⊥
-IsReusableAhead (IsOwedAhead.by_purge head e text accepted order same is) ahead = ⊥
 
 -- hooks answered the request, and its client was given all of that
 pub record EndsAnswered (s : Start) (p : Passed) (w : World) (reuse : Bool) : Type 0 where

@@ -13,6 +13,7 @@ pub mod ClosingHooks
 pub mod Calls
 pub mod Uses
 pub mod Preparing
+pub mod Purging
 pub mod Bound
 pub mod Turn
 pub mod Legs

@@ -68,7 +68,6 @@ abbrev pub TellsAgain : {s : Start} {p : Passed} {why : Option Error} {text : Li
 TellsAgain (IsOwedAhead.by_answer head tasks text accepted order is_answer is) session =
     TellsBehind head accepted.framing (wire (request_of head) stands.NoHead tasks) session
 TellsAgain (IsOwedAhead.by_error head e text accepted stopped told is) session = Unit {0}
-TellsAgain (IsOwedAhead.by_purge head e text accepted order same is) session = Unit {0}
 
 -- hooks answered a request: its session tells that, and no call of its client's link failed
 abbrev pub IsAnsweredCalmly : {s : Start} {p : Passed} {text : List ℕ} → World

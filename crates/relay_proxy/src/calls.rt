@@ -1,6 +1,6 @@
 //! The calls of an application for one request: what its hooks are shown, the log of their calls,
 //! and which of them comes next (RFC 9110, section 3.7).
-ghost use Rattle.std.specs.Prelude.{◌≡◌, ◌+◌, [], false, true, length, None, IfOk, IfSome, IsOkUnless, IsSome, IsTrue, OnErr, OnOk, is_some, if◌then◌else◌};
+ghost use Rattle.std.specs.Prelude.{◌≡◌, ◌⊎◌, ◌+◌, [], false, true, length, None, IfOk, IfSome, IsOkUnless, IsSome, IsTrue, OnErr, OnOk, is_some, if◌then◌else◌};
 ghost use Rattle.relay_session.specs.Reading.{head_of};
 ghost use Rattle.relay_session.specs.Response.{has_head};
 ghost use Rattle.relay_opening.specs.Place.{is_open};
@@ -9,7 +9,9 @@ ghost use Rattle.relay_phases.specs.Turns.{HasCalled, QueuesNothing};
 ghost use Rattle.relay_tasks.specs.declared.hook.Hook.{Hook};
 ghost use Rattle.relay_trying.specs.Trying.{FiltersHead, TellsConnected, Treats, may_break};
 ghost use Rattle.relay_closing.specs.Place.{begun, is_lost, may_fail};
-ghost use Rattle.relay_proxy.specs.Calls.{CallsLast, CallsNext, CountsCalls, HasAnswered, HasBegun, TakesNext, allowed_by, closed_with, ended_with, final_at, given_at, has_last, is_calling, is_closing_at, is_lost_at, kept_at, leads_at, leads_to, log_of, seen_with, treated_at};
+ghost use Rattle.relay_purging.specs.Asked.{IsAsked};
+ghost use Rattle.relay_purging.specs.Purging.{PurgesTo};
+ghost use Rattle.relay_proxy.specs.Calls.{CallsLast, CallsNext, CountsCalls, HasAnswered, HasBegun, TakesNext, allowed_by, closed_with, ended_with, final_at, given_at, has_last, is_calling, is_closing_at, is_lost_at, kept_at, leads_at, leads_to, log_of, purge_at, seen_with, treated_at};
 
 use crate::closing_hooks::{calls_next, failed_with, given, kept_in};
 use crate::outcome::Outcome;
@@ -17,9 +19,11 @@ use crate::work::Work;
 use relay_closing as closing;
 use relay_closing::begin_closing;
 use relay_hooks::{HttpModule, ProxyHttp, Session};
+use relay_links::Purger;
 use relay_opening::{End, Place, begin_opening, take_turn};
+use relay_purging::{End as Purged, ask_action, purge};
 use relay_session::HttpSession;
-use relay_tasks::{Error, Fail, Peer, PhaseLog, RequestHeader, Result};
+use relay_tasks::{Error, Fail, Peer, PhaseLog, PurgeAction, RequestHeader, Result};
 use relay_trying::{
     filter_head, name_peer, summarize, tell_connected, treat_failure, treat_refusal, warn,
 };
@@ -33,6 +37,8 @@ pub(crate) enum At<K, C> {
     Kept(Option<K>),
     /// The hooks before the attempts stand there; behind the last of them a peer is asked for.
     Opening(Place<K>),
+    /// The request is a purge, which does that, and the purger is asked for it.
+    Purging(PurgeAction),
     /// That peer was named, and the connector is asked for a link to it.
     Named(Peer),
     /// The connector gave none. Another attempt follows, and it is asked whether the error of this
@@ -56,7 +62,7 @@ impl<K: Drop, C: Drop> At<K, C> {
         match self {
             At::Kept(_) => Opened::OutOfMemory,
             At::Opening(place) => leads_to(place),
-            At::Named(_) => Opened::GoesOn,
+            At::Purging(_) | At::Named(_) => Opened::GoesOn,
             At::Repeatable(_) | At::Warning => Opened::GoesOn,
             At::Linked => Opened::GoesOn,
             At::Treated(_) | At::Closing(_, _) => Opened::OutOfMemory,
@@ -68,11 +74,11 @@ impl<K: Drop, C: Drop> At<K, C> {
         ensures { result ≡ is_calling self.now }
     {
         match self {
-            At::Opening(Place::Behind(_) | Place::Ended(End::Attempts)) => true,
-            At::Opening(Place::Ended(End::Answered | End::Purge | End::Declined)) => false,
+            At::Opening(Place::Behind(_) | Place::Ended(End::Attempts | End::Purge)) => true,
+            At::Opening(Place::Ended(End::Answered | End::Declined)) => false,
             At::Opening(Place::Ended(End::Unwritten(_) | End::Failed(_)) | Place::Lost) => false,
             At::Repeatable(_) | At::Warning => true,
-            At::Kept(_) | At::Named(_) | At::Linked => false,
+            At::Kept(_) | At::Purging(_) | At::Named(_) | At::Linked => false,
             At::Treated(_) | At::Closing(_, _) => false,
         }
     }
@@ -86,8 +92,19 @@ impl<K: Drop, C: Drop> At<K, C> {
             At::Opening(Place::Ended(End::Attempts | End::Answered | End::Purge)) => None,
             At::Opening(Place::Ended(End::Declined | End::Unwritten(_))) => None,
             At::Opening(Place::Behind(_) | Place::Lost) => None,
-            At::Kept(_) | At::Named(_) | At::Repeatable(_) | At::Warning => None,
-            At::Linked | At::Treated(_) | At::Closing(_, _) => None,
+            At::Kept(_) | At::Purging(_) | At::Named(_) | At::Repeatable(_) => None,
+            At::Warning | At::Linked | At::Treated(_) | At::Closing(_, _) => None,
+        }
+    }
+
+    /// What a purge does, where the purger is asked for it next.
+    fn purge(&self) -> Option<PurgeAction>
+        ensures { result ≡ purge_at self.now }
+    {
+        match self {
+            At::Purging(action) => Some(*action),
+            At::Kept(_) | At::Opening(_) | At::Named(_) | At::Repeatable(_) => None,
+            At::Warning | At::Linked | At::Treated(_) | At::Closing(_, _) => None,
         }
     }
 
@@ -97,8 +114,8 @@ impl<K: Drop, C: Drop> At<K, C> {
     {
         match self {
             At::Treated(error) => Some(*error),
-            At::Kept(_) | At::Opening(_) | At::Named(_) | At::Linked => None,
-            At::Repeatable(_) | At::Warning | At::Closing(_, _) => None,
+            At::Kept(_) | At::Opening(_) | At::Purging(_) | At::Named(_) => None,
+            At::Repeatable(_) | At::Warning | At::Linked | At::Closing(_, _) => None,
         }
     }
 
@@ -109,6 +126,7 @@ impl<K: Drop, C: Drop> At<K, C> {
         match self {
             At::Kept(kept) => At::Kept(kept),
             At::Opening(place) => At::Opening(place),
+            At::Purging(action) => At::Purging(action),
             At::Named(peer) => At::Named(peer),
             At::Repeatable(error) => At::Repeatable(error),
             At::Warning => At::Warning,
@@ -128,7 +146,7 @@ impl<K: Drop, C: Drop> At<K, C> {
             At::Kept(_kept) => unreachable!(),
             At::Opening(_place) => unreachable!(),
             At::Named(_peer) => unreachable!(),
-            At::Repeatable(_) | At::Warning => unreachable!(),
+            At::Purging(_) | At::Repeatable(_) | At::Warning => unreachable!(),
             At::Linked | At::Treated(_) => unreachable!(),
         }
     }
@@ -142,20 +160,18 @@ impl<K: Drop, C: Drop> At<K, C> {
             At::Kept(_kept) => None,
             At::Opening(_place) => None,
             At::Named(_peer) => None,
-            At::Repeatable(_) | At::Warning => None,
+            At::Purging(_) | At::Repeatable(_) | At::Warning => None,
             At::Linked | At::Treated(_) => None,
         }
     }
 }
 
 /// What a call of a hook before a link was given led to: the request goes on, to another hook, to
-/// the answer of its error or to the connector; it was answered; it is a purge; or memory was
-/// wanted.
+/// the answer of its error or to the connector; it was answered; or memory was wanted.
 #[derive(Clone, Copy)]
 pub(crate) enum Opened {
     GoesOn,
     Answered,
-    Purges,
     OutOfMemory,
 }
 
@@ -165,10 +181,8 @@ fn leads_to<K>(place: &Place<K>) -> Opened
 {
     match place {
         Place::Behind(_) => Opened::GoesOn,
-        Place::Ended(End::Attempts) => Opened::GoesOn,
-        Place::Ended(End::Answered) => Opened::Answered,
-        Place::Ended(End::Purge) => Opened::Purges,
-        Place::Ended(End::Declined) => Opened::Answered,
+        Place::Ended(End::Attempts | End::Purge) => Opened::GoesOn,
+        Place::Ended(End::Answered | End::Declined) => Opened::Answered,
         Place::Ended(End::Unwritten(_)) => Opened::OutOfMemory,
         Place::Ended(End::Failed(_)) => Opened::GoesOn,
         Place::Lost => Opened::OutOfMemory,
@@ -209,9 +223,16 @@ impl<M: HttpModule + Drop, K: Drop, C: Drop> Calls<M, K, C> {
     {
         match &self.at {
             At::Named(peer) => peer.copy().ok(),
-            At::Kept(_) | At::Opening(_) | At::Repeatable(_) | At::Warning => None,
-            At::Linked | At::Treated(_) | At::Closing(_, _) => None,
+            At::Kept(_) | At::Opening(_) | At::Purging(_) | At::Repeatable(_) => None,
+            At::Warning | At::Linked | At::Treated(_) | At::Closing(_, _) => None,
         }
+    }
+
+    /// What a purge does, where the purger is asked for it next.
+    pub(crate) fn purge(&self) -> Option<PurgeAction>
+        ensures { result ≡ purge_at self.now.at }
+    {
+        self.at.purge()
     }
 
     /// The error with which a hook before the attempts stopped the request, and which is to be
@@ -260,8 +281,8 @@ impl<M: HttpModule + Drop, K: Drop, C: Drop> Calls<M, K, C> {
     {
         match &self.at {
             At::Closing(_, place) => calls_next(place, goes_back),
-            At::Kept(_) | At::Opening(_) | At::Named(_) | At::Repeatable(_) => false,
-            At::Warning | At::Linked | At::Treated(_) => false,
+            At::Kept(_) | At::Opening(_) | At::Purging(_) | At::Named(_) => false,
+            At::Repeatable(_) | At::Warning | At::Linked | At::Treated(_) => false,
         }
     }
 
@@ -272,8 +293,8 @@ impl<M: HttpModule + Drop, K: Drop, C: Drop> Calls<M, K, C> {
     {
         match &self.at {
             At::Closing(_, place) => given(place, came),
-            At::Kept(_) | At::Opening(_) | At::Named(_) | At::Repeatable(_) => came,
-            At::Warning | At::Linked | At::Treated(_) => came,
+            At::Kept(_) | At::Opening(_) | At::Purging(_) | At::Named(_) => came,
+            At::Repeatable(_) | At::Warning | At::Linked | At::Treated(_) => came,
         }
     }
 
@@ -309,8 +330,8 @@ pub(crate) fn begin_calls<SV: ProxyHttp>(
 {
     let kept = match mem::replace(&mut calls.at, At::Kept(None)) {
         At::Kept(kept) => kept,
-        At::Opening(_) | At::Named(_) | At::Repeatable(_) | At::Warning => None,
-        At::Linked | At::Treated(_) | At::Closing(_, _) => None,
+        At::Opening(_) | At::Purging(_) | At::Named(_) | At::Repeatable(_) => None,
+        At::Warning | At::Linked | At::Treated(_) | At::Closing(_, _) => None,
     };
     mem::swap(client, &mut calls.session.seen.downstream);
     let begun = begin_opening(app, &mut calls.session, kept);
@@ -367,7 +388,11 @@ fn take_next<SV: ProxyHttp>(
             let place = Place::Behind(last);
             At::Opening(take_turn(app, session, context, place, true))
         }
-        At::Opening(Place::Ended(_)) => match name_peer(app, session, context) {
+        At::Opening(Place::Ended(End::Purge)) => match ask_action(app, session, context) {
+            Ok(action) => At::Purging(action),
+            Err(_) => At::Opening(Place::Lost),
+        },
+        At::Opening(Place::Ended(End::Attempts)) => match name_peer(app, session, context) {
             Ok(peer) => At::Named(peer),
             Err(Fail::Error(error)) => At::Opening(Place::Ended(End::Failed(error))),
             Err(Fail::OutOfMemory) => At::Opening(Place::Lost),
@@ -381,9 +406,41 @@ fn take_next<SV: ProxyHttp>(
             Ok(_summary) => At::Opening(Place::Ended(End::Attempts)),
             Err(_) => At::Opening(Place::Lost),
         },
+        At::Opening(Place::Ended(End::Answered | End::Declined)) => unreachable!(),
+        At::Opening(Place::Ended(End::Unwritten(_) | End::Failed(_))) => unreachable!(),
         At::Opening(Place::Lost) | At::Kept(_) | At::Named(_) | At::Linked => unreachable!(),
-        At::Treated(_) | At::Closing(_, _) => unreachable!(),
+        At::Purging(_) | At::Treated(_) | At::Closing(_, _) => unreachable!(),
     }
+}
+
+/// Asks the purger, once, to do that with what is kept for the request's target, has the head of
+/// the answer filtered, and queues the answer.
+///
+/// Out of memory also for a client whose head was not read or to whom a final head was queued,
+/// which cannot be where this is called; the purger is not asked then.
+pub(crate) fn call_purger<SV: ProxyHttp, P: Purger>(
+    app: &SV,
+    purger: &mut P,
+    calls: &mut Calls<SV::Modules, SV::Kept, SV::CTX>,
+    context: &mut SV::CTX,
+    client: &mut HttpSession,
+    action: PurgeAction,
+) -> Purged
+    ensures purges { PurgesTo (allowed_by (SV.allows app.now) SV.Modules.allows) action
+        (P.state purger.old) (P.state purger.new) (seen_with calls.old client.old)
+        (SV.mark_of app.now context.old) (seen_with calls.new client.new)
+        (SV.mark_of app.now context.new) result }
+    ensures asked { (P.state purger.new ≡ P.state purger.old)
+        ⊎ IsAsked (P.state purger.old) action (seen_with calls.old client.old)
+        (P.state purger.new) }
+{
+    if !client.has_head() || client.response_written() {
+        return Purged::Lost;
+    }
+    mem::swap(client, &mut calls.session.seen.downstream);
+    let end = purge(app, purger, &mut calls.session, context, action);
+    mem::swap(client, &mut calls.session.seen.downstream);
+    end
 }
 
 /// Tells the application of the link to that peer, which had been used before or not.

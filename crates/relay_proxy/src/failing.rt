@@ -241,7 +241,7 @@ fn repeat<SV: ProxyHttp, L: ByteLink>(
             step: RunStep::Moved,
             work: Work::CALLED,
         },
-        Opened::Answered | Opened::Purges | Opened::OutOfMemory => {
+        Opened::Answered | Opened::OutOfMemory => {
             closed(link, lease, false, Outcome::OutOfMemory)
         }
     }

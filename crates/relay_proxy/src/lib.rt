@@ -14,6 +14,7 @@ mod outcome;
 mod owed;
 mod preparing;
 mod proxy;
+mod purging;
 mod record;
 mod relayable;
 mod relaying;

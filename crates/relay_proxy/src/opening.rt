@@ -11,11 +11,10 @@ ghost use Rattle.relay_tasks.specs.Head.{RequestHead};
 ghost use Rattle.relay_tasks.specs.declared.log.LogEntry.{LogEntry};
 ghost use Rattle.relay_attempt.specs.Passed.{Passed};
 ghost use Rattle.relay_proxy.specs.Bound.{CountsCall, CountsLink};
-ghost use Rattle.relay_phases.specs.Order.{Accepts, accepted, purging};
-ghost use Rattle.relay_proxy.specs.Ahead.{unrelayed};
 ghost use Rattle.relay_proxy.specs.Calls.{CallsSoFar, CountsCalls, IsUnended, Owing, allowed_by, final_at, is_calling, log_of};
 ghost use Rattle.relay_proxy.specs.Passed.{World, Start, called_to, opened_to};
 ghost use Rattle.relay_proxy.specs.Phases.{RunSoFar};
+ghost use Rattle.relay_proxy.specs.Purging.{AsksPurger};
 ghost use Rattle.relay_proxy.specs.Sent.{IsUntreated};
 ghost use Rattle.relay_proxy.specs.Stock.{items_held};
 ghost use Rattle.relay_proxy.specs.Relayable.{IsAccepted};
@@ -24,25 +23,27 @@ ghost use Rattle.relay_proxy.specs.Taken.{TakesAfter};
 ghost use Rattle.relay_proxy.specs.Tries.{AreTries};
 ghost use Rattle.relay_proxy.specs.Turn.{world_with, DoesWork, is_connecting, is_over, is_end, links_held, Advances, HasCause};
 ghost use Rattle.relay_proxy.specs.Uses.{OwesAnswer, PhaseUses};
-ghost use Rattle.relay_tasks.specs.declared.ErrorSource.{ErrorSource};
 
 use crate::answering::owe;
 use crate::calls::{Calls, Opened, answer_error, call_next};
 use crate::connecting::{connect, lacks_memory};
 use crate::machine::{Next, Phase, RunStep};
-use crate::owed::{Owed, queue_answer};
+use crate::owed::Owed;
+use crate::purging::purge;
 use crate::record::AttemptList;
 use crate::work::Work;
-use relay_hooks::{HttpModule, ProxyHttp};
-use relay_links::{ByteLink, Connector};
+use relay_hooks::ProxyHttp;
+use relay_links::{ByteLink, Connector, Purger};
 use relay_session::HttpSession;
-use relay_tasks::{Error, ErrorType};
+use relay_tasks::Error;
 
 /// Calls the hook that comes next, while no peer is named, or has the application answer the error
-/// with which one stopped the request; and then asks the connector for a link to the peer.
-pub(crate) fn reach<SV: ProxyHttp, K: Connector>(
+/// with which one stopped the request, or the purger asked for a purge; and then asks the connector
+/// for a link to the peer.
+pub(crate) fn reach<SV: ProxyHttp, K: Connector, P: Purger>(
     app: &SV,
     connector: &mut K,
+    purger: &mut P,
     most: usize,
     calls: &mut Calls<SV::Modules, SV::Kept, SV::CTX>,
     context: SV::CTX,
@@ -80,9 +81,16 @@ pub(crate) fn reach<SV: ProxyHttp, K: Connector>(
         (items_held K.Byte.start result.phase) (K.refusals connector.old)
         (K.refusals connector.new) (K.stock connector.old) (K.stock connector.new) }
     ensures faults { K.fault_count connector.old ≤ K.fault_count connector.new }
+    ensures purger { CallsSoFar {L = K.Byte} (allowed_by (SV.allows app.now) SV.Modules.allows)
+        (SV.mark_of app.now) calls.old (Phase.Connect context session tries)
+        → AsksPurger (P.state purger.old) (P.state purger.new) (log_of calls.old)
+        (log_of calls.new) result.phase }
 {
     if let Some(error) = calls.final_error() {
         return answer(app, calls, context, session, tries, error);
+    }
+    if let Some(action) = calls.purge() {
+        return purge(app, purger, calls, context, session, tries, action);
     }
     if calls.is_calling() {
         return open(app, calls, context, session, tries);
@@ -135,7 +143,6 @@ fn open<SV: ProxyHttp, L: ByteLink>(
             calls.begin_end(context);
             owe(calls, session, Owed::Ahead(None), tries)
         }
-        Opened::Purges => turn_down(calls, session, tries),
         Opened::OutOfMemory => lacks_memory(tries),
     }
 }
@@ -178,42 +185,4 @@ fn answer<SV: ProxyHttp, L: ByteLink>(
         Ok(()) => owe(calls, session, Owed::Ahead(Some(error)), tries),
         Err(_) => lacks_memory(tries),
     }
-}
-
-/// A request that is a purge, which is not done so far: the client is owed the relay's own answer.
-fn turn_down<M: HttpModule + Drop, K: Drop, L: ByteLink, C: Drop>(
-    calls: &mut Calls<M, K, C>,
-    session: Box<HttpSession>,
-    tries: AttemptList,
-) -> Next<L, C>
-    ensures run { (s : Start) (these those : List LogEntry) (p : Passed) (w : World) (context : C)
-        (client : Box HttpSession) (head : RequestHead)
-        → session.value.writing.output ≡ Outgoing.Open []
-        → session.value.writing.request ≡ request_of head
-        → session.value.writing.place ≡ Place.NoHead → IsAccepted (opened_to s those) p head
-        → Accepts accepted those purging → IsUntreated those → AreTries (opened_to s those) tries
-        → RunSoFar {C = C} L.state L.start (opened_to s these) p w []
-        (Phase.Connect context client tries)
-        → Advances {C = C} L.state L.start (opened_to s those) w result.phase }
-    ensures owes { result.step ≡ RunStep.Moved → OwesAnswer result.phase }
-    ensures calls { (client : HttpSession)
-        × Owing client (Owed.Ahead (Some (unrelayed ErrorSource.Internal))) calls.old calls.new
-        result.phase }
-    ensures step { (result.step ≡ RunStep.Moved) ⊎ (result.step ≡ RunStep.Ended) }
-    ensures work { DoesWork result.step result.work }
-    ensures counts { CountsCall tries result.phase result.work }
-    ensures called { result.work.called ≤ 1 }
-    ensures unopened { is_connecting result.phase ≡ false }
-    ensures unused { result.work.used ≡ 0 }
-    ensures over { is_over result.phase ≡ is_end result.step }
-    ensures unlinked { links_held L.state L.start result.phase ≡ 0 }
-    ensures no_items { items_held L.start result.phase ≡ [] }
-    ensures attempts { attempts_in result.phase ≡ tries }
-{
-    let mut session = session;
-    let error = Error::new_in(ErrorType::Custom(1));
-    let Ok(()) = queue_answer(&mut session, error) else {
-        return lacks_memory(tries);
-    };
-    owe(calls, session, Owed::Ahead(Some(error)), tries)
 }

@@ -1,14 +1,10 @@
 //! What a request still owes its client, and the answer that is written for it (RFC 9110, section
 //! 15).
-ghost use Rattle.std.specs.Prelude.{◌≡◌, OnOk};
-ghost use Rattle.relay_proxy.specs.Answer.{QueuesAnswer};
+ghost use Rattle.std.specs.Prelude.{◌≡◌};
 ghost use Rattle.relay_proxy.specs.Owed.{outcome_owed, outcome_failed, outcome_written};
 
 use crate::outcome::Outcome;
-use relay_hooks::defaults::answer_code;
-use relay_session::HttpSession;
-use relay_tasks::{Error, Fail, Fault};
-use std::alloc::AllocError;
+use relay_tasks::{Error, Fault};
 
 /// How a request ends once its generated answer was written.
 ///
@@ -68,20 +64,5 @@ fn served(error: Option<Error>) -> Outcome
     Outcome::Served {
         error,
         reuse: false,
-    }
-}
-
-/// Queues the answer to that error behind what waits, where it has one and no write failed before.
-pub(crate) fn queue_answer(session: &mut HttpSession, error: Error) -> Result<(), AllocError>
-    ensures queued { OnOk result (QueuesAnswer session.old.writing.output error
-        session.old.writing session.new.writing) }
-{
-    let code = answer_code(&error);
-    if code == 0 {
-        return Ok(());
-    }
-    match session.respond_error(code) {
-        Ok(()) | Err(Fail::Error(_)) => Ok(()),
-        Err(Fail::OutOfMemory) => Err(AllocError),
     }
 }

@@ -11,6 +11,7 @@ ghost use Rattle.relay_proxy.specs.Calls.{CallsLast, CallsSoFar, CountsLast, IsL
 ghost use Rattle.relay_links.specs.Count.{up};
 ghost use Rattle.relay_proxy.specs.Passed.{Start, called_to, start_of, nothing};
 ghost use Rattle.relay_proxy.specs.Phases.{RunSoFar};
+ghost use Rattle.relay_proxy.specs.Purging.{AsksPurger, HasLost, HasPurged};
 ghost use Rattle.relay_proxy.specs.Refusals.{attempts_in};
 ghost use Rattle.relay_proxy.specs.Request.{answer_of, is_done, is_stop, ended_after, kept_of, Counts, StepsOn, ComesToEnd, Processes};
 ghost use Rattle.relay_proxy.specs.Stock.{items_held, all_items};
@@ -201,7 +202,8 @@ impl<SV: ProxyHttp, K: Connector, P: Purger> HttpProxy<SV, K, P> {
 
     /// Takes one turn of a request: one call of the link that it waits for, one verdict on a head,
     /// one call of a hook, one of the connector with that of `connected_to_upstream` behind the
-    /// link that it gave, or of `fail_to_connect` where it gave none, or one branch of the duplex.
+    /// link that it gave, or of `fail_to_connect` where it gave none, one of the purger with that of
+    /// `purge_response_filter` behind its answer, or one branch of the duplex.
     /// In the duplex the schedule picks the branch; where it names none or one that cannot be
     /// taken, the first that can is taken. A branch whose link is silent passes the turn on to the
     /// next, going round; where all are silent the answer is `Waited(Silent)`.
@@ -249,6 +251,13 @@ impl<SV: ProxyHttp, K: Connector, P: Purger> HttpProxy<SV, K, P> {
         ensures once { length (log_of machine.new.calls)
             ≤ 1 + length (log_of machine.old.calls) }
         ensures front { IsFrontOf (log_of machine.old.calls) (log_of machine.new.calls) }
+        // The purger is asked once in the step behind which the log tells of a purge, and then for
+        // just that, and in no other; but also in one with which the request ended, where memory
+        // was wanted behind its answer.
+        ensures purger { CallsSoFar (allowed_by (SV.allows self.old.inner) SV.Modules.allows)
+            (SV.mark_of self.old.inner) machine.old.calls machine.old.machine.phase
+            → AsksPurger (P.state self.old.purger) (P.state self.new.purger)
+            (log_of machine.old.calls) (log_of machine.new.calls) machine.new.machine.phase }
         // Before there is a link it moved something of the client, or went on to its next phase; in
         // an exchange it asked a link once, or none and it moved a task or brought an end, by the
         // branch that it took. It waits only where a link answered so in this step; and in silence
@@ -314,7 +323,10 @@ impl<SV: ProxyHttp, K: Connector, P: Purger> HttpProxy<SV, K, P> {
         ensures kept { client.new.kept ≡ client.old.kept }
         // Beside the links and the connector it asks the schedule alone.
         ensures outside { outside.new ≡ record outside.old { schedule = outside.new.schedule } }
-        ensures same { self.new ≡ record self.old { connector = self.new.connector } }
+        ensures same { self.new ≡ record self.old {
+          connector = self.new.connector;
+          purger = self.new.purger;
+        } }
     {
         if let Some(goes_back) = machine.goes_on_last() {
             return self.call_last(machine, goes_back);
@@ -393,6 +405,13 @@ impl<SV: ProxyHttp, K: Connector, P: Purger> HttpProxy<SV, K, P> {
         ensures once { length (log_of machine.new.calls)
             ≤ 1 + length (log_of machine.old.calls) }
         ensures front { IsFrontOf (log_of machine.old.calls) (log_of machine.new.calls) }
+        // The purger is asked once in the step behind which the log tells of a purge, and then for
+        // just that, and in no other; but also in one with which the request ended, where memory
+        // was wanted behind its answer.
+        ensures purger { CallsSoFar (allowed_by (SV.allows self.old.inner) SV.Modules.allows)
+            (SV.mark_of self.old.inner) machine.old.calls machine.old.machine.phase
+            → AsksPurger (P.state self.old.purger) (P.state self.new.purger)
+            (log_of machine.old.calls) (log_of machine.new.calls) machine.new.machine.phase }
         // Before there is a link it moved something of the client, or went on to its next phase; in
         // an exchange it asked a link once, or none and it moved a task or brought an end, by the
         // branch that it took. It waits only where a link answered so in this step; and in silence
@@ -458,12 +477,16 @@ impl<SV: ProxyHttp, K: Connector, P: Purger> HttpProxy<SV, K, P> {
         ensures kept { client.new.kept ≡ client.old.kept }
         // Beside the links and the connector it asks the schedule alone.
         ensures outside { outside.new ≡ record outside.old { schedule = outside.new.schedule } }
-        ensures same { self.new ≡ record self.old { connector = self.new.connector } }
+        ensures same { self.new ≡ record self.old {
+          connector = self.new.connector;
+          purger = self.new.purger;
+        } }
     {
         let Did { step, work } = take_turn(
             self.alloc,
             &self.inner,
             &mut self.connector,
+            &mut self.purger,
             self.conf.max_retries,
             machine.machine.first,
             &mut machine.calls,
@@ -502,6 +525,7 @@ impl<SV: ProxyHttp, K: Connector, P: Purger> HttpProxy<SV, K, P> {
         // It has not ended exactly where it gives `TurnLimit`.
         ensures limit { is_done machine.machine.phase machine.calls.at ≡ false
             → result.0.outcome ≡ Outcome.TurnLimit }
+        ensures lost { HasLost machine.machine.phase → result.0.outcome ≡ Outcome.OutOfMemory }
         ensures turns { result.0.history.turns_taken ≡ machine.machine.turns }
         ensures moved { result.0.history.tasks_moved ≡ machine.machine.work.moved }
         ensures used { result.0.history.items_used ≡ machine.machine.work.used }
@@ -589,8 +613,13 @@ impl<SV: ProxyHttp, K: Connector, P: Purger> HttpProxy<SV, K, P> {
         ensures outside { outside.new ≡ record outside.old { schedule = outside.new.schedule } }
         // A value is kept where `persist_connection_context` was called last, and gave one.
         ensures kept { IsSome client.new.kept → KeepsValue result.history.log }
+        // The purger is asked for each purge of which the log tells, and for just that; or once
+        // more, for what the last call asked, where the request ended for want of memory.
+        ensures purger { HasPurged (P.state self.old.purger) (P.state self.new.purger)
+            result.history.log result.outcome }
         ensures same { self.new ≡ record self.old {
           connector = self.new.connector;
+          purger = self.new.purger;
           requests_ended = ended_after self.old.requests_ended result.outcome;
         } }
     {
@@ -621,6 +650,7 @@ impl<SV: ProxyHttp, K: Connector, P: Purger> HttpProxy<SV, K, P> {
             (world_of D.state client.new (K.fault_count self.new.connector)) own
             (K.returned self.old.connector) (K.returned self.new.connector)
             machine.machine.phase machine.calls.at result }
+        ensures lost { HasLost machine.machine.phase → result.outcome ≡ Outcome.OutOfMemory }
         ensures turns { result.history.turns_taken ≡ machine.machine.turns }
         ensures moved { result.history.tasks_moved ≡ machine.machine.work.moved }
         ensures used { result.history.items_used ≡ machine.machine.work.used }

@@ -28,7 +28,7 @@ ghost use Rattle.relay_proxy.specs.Work.{total_work};
 use crate::calls::Calls;
 use crate::machine::{Attempt, Did, Lease, Next, Phase, RunStep};
 use crate::outcome::Outcome;
-use crate::owed::{Owed, queue_answer};
+use crate::owed::Owed;
 use crate::uses::{Uses, has_risen};
 use crate::work::{Work, work_of, work_of_failure};
 use relay_attempt::H1Exchange;

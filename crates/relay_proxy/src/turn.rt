@@ -9,6 +9,7 @@ ghost use Rattle.relay_proxy.specs.Closing.{Rests, TurnOf};
 ghost use Rattle.relay_proxy.specs.Taken.{Takes, offers_before, offers_of_turn};
 ghost use Rattle.relay_proxy.specs.Passed.{Start, called_to};
 ghost use Rattle.relay_proxy.specs.Phases.{RunSoFar};
+ghost use Rattle.relay_proxy.specs.Purging.{AsksPurger};
 ghost use Rattle.relay_proxy.specs.Refusals.{faults_before, faults_of_turn};
 ghost use Rattle.relay_proxy.specs.Relaying.{is_relaying};
 ghost use Rattle.relay_proxy.specs.Stock.{items_held, all_items};
@@ -27,18 +28,19 @@ use crate::unlinked::answer_unlinked;
 use crate::work::Work;
 use relay_h1::Connection;
 use relay_hooks::ProxyHttp;
-use relay_links::{ByteLink, Connector, Schedule};
+use relay_links::{ByteLink, Connector, Purger, Schedule};
 use std::alloc::Global;
 use std::mem;
 
-/// One turn: one call of one link, of the connector or of a hook, one verdict on a head, or one
-/// branch of the duplex. A request makes `most` attempts at most, and as it began, `first` calls of
+/// One turn: one call of one link, of the connector or of a hook, one of the purger with that behind
+/// it, one verdict on a head, or one branch of the duplex. A request makes `most` attempts at most, and as it began, `first` calls of
 /// the client's link had failed. A phase that relays is turned where it stands, since it has the
 /// most turns.
-pub(crate) fn take_turn<SV: ProxyHttp, K: Connector, D: ByteLink, U: Drop, H: Schedule>(
+pub(crate) fn take_turn<SV: ProxyHttp, K: Connector, P: Purger, D: ByteLink, U: Drop, H: Schedule>(
     alloc: Global,
     hooks: &SV,
     connector: &mut K,
+    purger: &mut P,
     most: usize,
     first: u64,
     calls: &mut Calls<SV::Modules, SV::Kept, SV::CTX>,
@@ -59,6 +61,10 @@ pub(crate) fn take_turn<SV: ProxyHttp, K: Connector, D: ByteLink, U: Drop, H: Sc
         → CallsSoFar (allowed_by (SV.allows hooks.now) SV.Modules.allows) (SV.mark_of hooks.now)
         calls.new phase.new }
     ensures called { CountsCalls calls.old calls.new result.work }
+    ensures purger { CallsSoFar (allowed_by (SV.allows hooks.now) SV.Modules.allows)
+        (SV.mark_of hooks.now) calls.old phase.old
+        → AsksPurger (P.state purger.old) (P.state purger.new) (log_of calls.old)
+        (log_of calls.new) phase.new }
     ensures still { is_over phase.old ≡ true → log_of calls.new ≡ log_of calls.old }
     ensures cause { HasCause K.Byte.state K.Byte.start
         (world_of D.state client.old (K.fault_count connector.old))
@@ -123,15 +129,16 @@ pub(crate) fn take_turn<SV: ProxyHttp, K: Connector, D: ByteLink, U: Drop, H: Sc
     if phase.is_relaying() {
         return relay(alloc, first, calls, client, schedule, phase);
     }
-    move_on(alloc, hooks, connector, most, calls, client, phase)
+    move_on(alloc, hooks, connector, purger, most, calls, client, phase)
 }
 
 /// One turn of a phase that does not relay. It is taken out of its place, and the next is put
 /// there.
-fn move_on<SV: ProxyHttp, K: Connector, D: ByteLink, U: Drop>(
+fn move_on<SV: ProxyHttp, K: Connector, P: Purger, D: ByteLink, U: Drop>(
     alloc: Global,
     hooks: &SV,
     connector: &mut K,
+    purger: &mut P,
     most: usize,
     calls: &mut Calls<SV::Modules, SV::Kept, SV::CTX>,
     client: &mut Connection<D, U>,
@@ -151,6 +158,10 @@ fn move_on<SV: ProxyHttp, K: Connector, D: ByteLink, U: Drop>(
         → CallsSoFar (allowed_by (SV.allows hooks.now) SV.Modules.allows) (SV.mark_of hooks.now)
         calls.new phase.new }
     ensures called { CountsCalls calls.old calls.new result.work }
+    ensures purger { CallsSoFar (allowed_by (SV.allows hooks.now) SV.Modules.allows)
+        (SV.mark_of hooks.now) calls.old phase.old
+        → AsksPurger (P.state purger.old) (P.state purger.new) (log_of calls.old)
+        (log_of calls.new) phase.new }
     ensures still { is_over phase.old ≡ true → log_of calls.new ≡ log_of calls.old }
     ensures cause { HasCause K.Byte.state K.Byte.start
         (world_of D.state client.old (K.fault_count connector.old))
@@ -210,7 +221,9 @@ fn move_on<SV: ProxyHttp, K: Connector, D: ByteLink, U: Drop>(
     match mem::replace(phase, Phase::ReadHead) {
         Phase::ReadHead => phase.go_on(read_head(alloc, hooks, calls, client)),
         Phase::Connect(context, session, tries) => {
-            phase.go_on(reach(hooks, connector, most, calls, context, session, tries))
+            phase.go_on(reach(
+                hooks, connector, purger, most, calls, context, session, tries,
+            ))
         }
         Phase::Unlinked(context, session, attempts, error) => {
             phase.go_on(answer_unlinked(hooks, calls, context, session, attempts, error))

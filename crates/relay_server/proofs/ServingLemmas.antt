@@ -1052,8 +1052,11 @@ module _ {SV K P L C D U M : Type 0}
         let one = first.counted fits in
         let two = second.counted one.1 in
         (omega (arith, one.0, two.0), two.1);
-    same = second.same ∙ ap (λ (k : HttpProxy SV K P).
-        record k { connector = r.connector; requests_ended = r.requests_ended }) first.same;
+    same = second.same ∙ ap (λ (k : HttpProxy SV K P). record k {
+      connector = r.connector;
+      purger = r.purger;
+      requests_ended = r.requests_ended;
+    }) first.same;
   }
 
   -- a server that took one of its requests out
@@ -1116,7 +1119,7 @@ module _ {SV K P L C D U M : Type 0}
       (mark_of q.inner) before (books returned faults q) (next ∷ rest))
       → out q.connector + links_held state start_at visit.phase
       ≡ out p.connector + links_held state start_at next.phase
-      → q ≡ record p { connector = q.connector }
+      → q ≡ record p { connector = q.connector; purger = q.purger }
       → ServesOn state start_at client_state allows modules mark_of returned out faults p q
       (visit ∷ rest) (next ∷ rest)
   on_turned p q visit next rest serves held same = record {
@@ -1127,7 +1130,7 @@ module _ {SV K P L C D U M : Type 0}
         ap (λ (k : HttpProxy SV K P). k.requests_ended) same in
         (omega (arith, stays), omega (arith, stays, fits));
     same = same ∙ ap (λ (n : ℕ).
-        record p { connector = q.connector; requests_ended = n })
+        record p { connector = q.connector; purger = q.purger; requests_ended = n })
         (sym (ap (λ (k : HttpProxy SV K P). k.requests_ended) same));
   }
 
@@ -1141,7 +1144,7 @@ module _ {SV K P L C D U M : Type 0}
       (mark_of q.inner) before (books returned faults q) next rest)
       → out q.connector + links_held state start_at visit.phase
       ≡ out p.connector + links_held state start_at next.phase
-      → q ≡ record p { connector = q.connector }
+      → q ≡ record p { connector = q.connector; purger = q.purger }
       → ((before : Books L)
       → EndsOne state start_at client_state (allowed_by (allows q.inner) modules)
       (mark_of q.inner) before (books returned faults q) next rest
@@ -1159,7 +1162,12 @@ module _ {SV K P L C D U M : Type 0}
     counted = subst (λ (n : ℕ). CountRises n r.requests_ended)
         (ap (λ (k : HttpProxy SV K P). k.requests_ended) same) rises;
     same = same_on ∙ ap (λ (k : HttpProxy SV K P).
-        record k { connector = r.connector; requests_ended = r.requests_ended }) same;
+        record k { connector = r.connector; requests_ended = r.requests_ended }) same
+        ∙ ap (λ (u : P). record p {
+          connector = r.connector;
+          purger = u;
+          requests_ended = r.requests_ended;
+        }) (sym (ap (λ (k : HttpProxy SV K P). k.purger) same_on));
   }
 
   -- a server that gave a request up
@@ -1179,7 +1187,11 @@ module _ {SV K P L C D U M : Type 0}
     serves = serves;
     held = omega (arith, held);
     counted = rises;
-    same = same;
+    same = same ∙ ap (λ (u : P). record p {
+      connector = q.connector;
+      purger = u;
+      requests_ended = q.requests_ended;
+    }) (sym (ap (λ (k : HttpProxy SV K P). k.purger) same));
   }
 
   -- a server at which a request began

@@ -210,4 +210,8 @@ pub record ServesOn {SV K P L C D U M : Type 0}
   pub held : out q.connector + all_held state start_at here
       ≡ out p.connector + all_held state start_at there
   pub counted : CountRises p.requests_ended q.requests_ended
-  pub same : q ≡ record p { connector = q.connector; requests_ended = q.requests_ended }
+  pub same : q ≡ record p {
+    connector = q.connector;
+    purger = q.purger;
+    requests_ended = q.requests_ended;
+  }

@@ -127,7 +127,10 @@ impl<SV: ProxyHttp, K: Connector, D: ByteLink> OpenConnection<SV, K, D> {
             + links_held K.Byte.state K.Byte.start self.old.phase
             ≡ K.out proxy.old.connector
             + links_held K.Byte.state K.Byte.start self.new.phase }
-        ensures same { proxy.new ≡ record proxy.old { connector = proxy.new.connector } }
+        ensures same { proxy.new ≡ record proxy.old {
+          connector = proxy.new.connector;
+          purger = proxy.new.purger;
+        } }
     {
         let step = proxy.step(&mut self.machine, &mut self.client, &mut self.outside);
         self.stillness = self.stillness.after(step, self.outside.schedule.last());

@@ -71,6 +71,7 @@ pub fn serve_with<R: Wait, SV: ProxyHttp, K: Connector, P: Purger, O: Poller>(
     ensures out { K.out proxy.new.connector ≡ K.out proxy.old.connector }
     ensures same { proxy.new ≡ record proxy.old {
       connector = proxy.new.connector;
+      purger = proxy.new.purger;
       requests_ended = proxy.new.requests_ended;
     } }
 {

@@ -1,15 +1,14 @@
 -- A peer is asked for, the hook before the attempts that comes next is called, or one of an attempt
 -- that was given no link.
-use Rattle.std.proofs.Common.{◌≡◌, List, refl, ap, arith, is_some, true, false, Ok, Err, ◌∙◌}
+use Rattle.std.proofs.Common.{◌≡◌, List, None, refl, ap, arith, is_some, sym, true, false, Ok, Err, ◌∙◌}
 use Rattle.relay_tasks.specs.declared.error.Fail.TheVariants as fail
 use Rattle.relay_tasks.specs.declared.hook.Hook.TheVariants as hook
 use Rattle.relay_tasks.specs.declared.log.Item.TheVariants as item
 use Rattle.relay_tasks.specs.declared.log.LogEntry.{LogEntry}
-use Rattle.relay_modules.specs.Module.{ModuleCall}
+use Rattle.relay_modules.specs.Module.{AllowsMade, ModuleCall}
 use Rattle.relay_hooks.specs.Call.{only}
 use Rattle.relay_hooks.specs.Session.{request_head}
 use Rattle.relay_opening.specs.Place.{next_hook}
-use Rattle.relay_opening.specs.declared.place.End.TheVariants as end
 use Rattle.relay_opening.specs.declared.place.Place.TheVariants as place
 use Rattle.relay_opening.proofs.WiderLemmas.{IsAllowed-wider, TurnsOn-wider}
 use Rattle.relay_phases.specs.Order.{Station as station}
@@ -17,8 +16,8 @@ use Rattle.relay_trying.specs.Trying.{warned_at}
 use Rattle.relay_trying.proofs.WithinLemmas.{LooksOnce-within, NamesPeer-within}
 use Rattle.relay_proxy.specs.Calls.{TakesNext}
 use Rattle.relay_proxy.specs.Named.{peer_in}
-use Rattle.relay_proxy.specs.declared.calls.At.TheVariants as at
-use Rattle.relay_proxy.proofs.CallLemmas.{calling_ended, turn_allowed}
+use Rattle.relay_proxy.proofs.BesideLemmas.{asks_beside}
+use Rattle.relay_proxy.proofs.CallLemmas.{turn_allowed}
 use Rattle.relay_proxy.proofs.NamedLemmas.{names_one, peer_last}
 use Rattle.relay_proxy.proofs.calls.take_next.Goals as goal
 
@@ -37,18 +36,37 @@ returns-in-Opening-Behind g c =
     (place.Behind c.in-Opening-Behind.last) c.args.session.now.modules call told) st e allowed)
     _ (place.Behind c.in-Opening-Behind.last) _ _ _ _ _ c.take_turn.ensures.turns))
 
--- a peer was named
+-- what a purge does was asked
 pub returns-in-Ok : goal.returns-in-Ok
 returns-in-Ok g c =
-    let here = c.in-Opening-Ended in
-    let is : c.args.at ≡ at.Opening (place.Ended here.field-0-0) =
-    here.is ∙ ap (λ p. at.Opening p) here.field-0-is in
-    let all : here.field-0-0 ≡ end.Attempts =
-    calling_ended g.row.SV-Kept.Denot here.field-0-0 (rw is at c.requires.calling) in
+    let here = c.in-Opening-Ended-Purge in
+    let asks = asks_beside (g.SV.ProxyHttp.allows c.args.app.now)
+    (AllowsMade g.SV.Modules.HttpModule.allows None)
+    (λ (call : ModuleCall). (made : g.row.SV-Modules.Denot)
+    × g.SV.Modules.HttpModule.allows made call) c.in-Ok.action _ _ _ (c.in-Ok.ensures.asks None) in
+    TakesNext.asks (record {
+      is_here = rw (here.is, here.field-0-is, here.field-0-0-is) refl;
+      action = c.in-Ok.action;
+      is_to = refl;
+      turn = asks.turn;
+      tells = record {
+        before = c.args.session.now.seen.log;
+        last = asks.turn.e;
+        is_last = asks.turn.calls.log;
+        asks = asks.turn.hook;
+        input = asks.input ∙ ap (λ h. item.Request h) (sym (ap request_head asks.stays));
+        output = asks.output;
+      };
+    })
+
+-- a peer was named
+pub returns-in-Ok-name_peer : goal.returns-in-Ok-name_peer
+returns-in-Ok-name_peer g c =
+    let here = c.in-Opening-Ended-Attempts in
     let names = NamesPeer-within (g.SV.ProxyHttp.allows c.args.app.now)
     (λ (call : ModuleCall). (made : g.row.SV-Modules.Denot)
-    × g.SV.Modules.HttpModule.allows made call) _ _ _ _ (Ok c.in-Ok.peer) c.in-Ok.ensures.names in
-    rw (is, all)
+    × g.SV.Modules.HttpModule.allows made call) _ _ _ _ (Ok c.in-Ok-name_peer.peer) c.in-Ok-name_peer.ensures.names in
+    rw (here.is, here.field-0-is, here.field-0-0-is)
     (TakesNext.tried (record {
       later = refl;
       which = hook.UpstreamPeer;
@@ -58,23 +76,19 @@ returns-in-Ok g c =
       past = refl;
       goes = tt;
       tells = ap (λ (l : List LogEntry). peer_in l) names.turn.calls.log
-          ∙ peer_last c.args.session.now.seen.log names.turn.e c.in-Ok.peer
-          (names_one names.turn.e c.in-Ok.peer names.turn.hook names.output);
+          ∙ peer_last c.args.session.now.seen.log names.turn.e c.in-Ok-name_peer.peer
+          (names_one names.turn.e c.in-Ok-name_peer.peer names.turn.hook names.output);
     }))
 
 -- or it failed
 pub returns-in-Err-Error : goal.returns-in-Err-Error
 returns-in-Err-Error g c =
-    let here = c.in-Opening-Ended in
-    let is : c.args.at ≡ at.Opening (place.Ended here.field-0-0) =
-    here.is ∙ ap (λ p. at.Opening p) here.field-0-is in
-    let all : here.field-0-0 ≡ end.Attempts =
-    calling_ended g.row.SV-Kept.Denot here.field-0-0 (rw is at c.requires.calling) in
+    let here = c.in-Opening-Ended-Attempts in
     let call = NamesPeer-within (g.SV.ProxyHttp.allows c.args.app.now)
     (λ (call : ModuleCall). (made : g.row.SV-Modules.Denot)
     × g.SV.Modules.HttpModule.allows made call) _ _ _ _ (Err (fail.Error c.in-Err-Error.error))
     (rw c.in-Err-Error.field-0-is at c.in-Err-Error.ensures.names) in
-    rw (is, all)
+    rw (here.is, here.field-0-is, here.field-0-0-is)
     (TakesNext.tried (record {
       later = refl;
       which = hook.UpstreamPeer;

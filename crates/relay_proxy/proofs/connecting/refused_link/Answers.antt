@@ -1,6 +1,7 @@
 -- The attempt is recorded with its error as it was treated, and another follows, or its client is
 -- to be answered; or memory was wanted.
 use Rattle.std.proofs.Common.{refl, subst}
+use Rattle.relay_hooks.specs.Session.{request_head}
 use Rattle.relay_phases.specs.Order.{named}
 use Rattle.relay_trying.specs.Trying.{may_follow, treated_at}
 use Rattle.relay_proxy.specs.Calls.{TellsPeer, allowed_by, log_of, seen_with}
@@ -26,7 +27,8 @@ returns-in-Ok-clause-run g c = λ s p w failed limit fits rose kind o was same r
     (treated_at (may_follow c.in-Ok.treated (seen_with c.args.calls.now c.args.session.value)))
     c.args.lacking.peer c.args.lacking.recorded c.args.lacking.fault c.of_fault-raised.result
     c.in-Ok.treated c.into_up-error.result limit fits rose kind
-    (subst (λ (a : At _ _). TellsPeer a (log_of c.args.calls.now)) was o.named) same
+    (subst (λ (a : At _ _). TellsPeer a (log_of c.args.calls.now)
+    (request_head (seen_with c.args.calls.now c.args.session.value))) was o.named) same
     c.of_fault-raised.ensures c.into_up-error.ensures c.record-attempts.ensures t.call run
     c.go_on.new.calls c.treat_unlinked.new.context _ c.go_on.result.phase c.go_on.ensures.log
     (λ may. (c.go_on.ensures.again may).0) (λ over. (c.go_on.ensures.ends over).0) refl
@@ -73,7 +75,8 @@ returns-in-Err-clause-run g c = λ s p w failed limit fits rose kind o was same 
     failed c.args.context c.args.session c.args.lacking.room.items.items c.record.result fits rose
     run c.args.lacking.peer c.args.lacking.recorded c.args.lacking.fault c.into_up.result
     c.in-Err.ensures.lost
-    (subst (λ (a : At _ _). TellsPeer a (log_of c.args.calls.now)) was o.named) same kind
+    (subst (λ (a : At _ _). TellsPeer a (log_of c.args.calls.now)
+    (request_head (seen_with c.args.calls.now c.args.session.value))) was o.named) same kind
     (sided _ _ _ _ c.of_fault-raised.ensures c.into_up.ensures) c.record.ensures)
 
 pub returns-in-Err-clause-calls : goal.returns-in-Err-clause-calls

@@ -60,11 +60,9 @@ returns-in-GoesOn-clause-called g c =
     one_called c.args.calls.now c.call_next.new.calls _ (omega arith) turn.e turn.calls.log
 
 -- a call that led anywhere else did not lead on
-stops : (to : Opened) → (to ≡ led.Answered) ⊎ ((to ≡ led.Purges) ⊎ (to ≡ led.OutOfMemory))
-    → to ≡ led.GoesOn → ⊥
+stops : (to : Opened) → (to ≡ led.Answered) ⊎ (to ≡ led.OutOfMemory) → to ≡ led.GoesOn → ⊥
 stops to (inl answered) goes = let clash : led.Answered ≡ led.GoesOn = sym answered ∙ goes in cc
-stops to (inr (inl purges)) goes = let clash : led.Purges ≡ led.GoesOn = sym purges ∙ goes in cc
-stops to (inr (inr lost)) goes = let clash : led.OutOfMemory ≡ led.GoesOn = sym lost ∙ goes in cc
+stops to (inr lost) goes = let clash : led.OutOfMemory ≡ led.GoesOn = sym lost ∙ goes in cc
 
 -- memory was wanted
 pub returns-in-Answered : goal.returns-in-Answered

@@ -35,7 +35,7 @@ returns-in-Ok-clause-run g c = λ s p w o run.
     let stops : IsStoppedFor (log_of c.args.calls.now) c.args.error = record {
       order = subst (λ (a : Station). Accepts station.accepted (log_of c.args.calls.now) a) here
           o.order;
-      fails = final_fails c.args.calls.now.at (log_of c.args.calls.now) c.args.error c.requires
+      fails = final_fails c.args.calls.now.at (log_of c.args.calls.now) _ c.args.error c.requires
           o.named;
     } in
     let done = error_answered s (log_of c.args.calls.now) (answers.turn.e ∷ []) p w c.args.session.value

@@ -7,7 +7,7 @@ use Rattle.relay_proxy.specs.Turn.{Advances}
 use Rattle.relay_proxy.specs.declared.calls.Calls.{Calls}
 use Rattle.relay_proxy.specs.declared.owed.Owed.TheVariants as owing
 use Rattle.relay_proxy.proofs.LastCalls.{counted_still, owing_log, owing_on}
-use Rattle.relay_proxy.proofs.HookSteps.{answered, answered_owing, counts_called, goes_connecting, known_at, memory_called, memory_logged, opening_on, purged, purged_owing, refusals, unended, untreated}
+use Rattle.relay_proxy.proofs.HookSteps.{answered, answered_owing, counts_called, goes_connecting, known_at, memory_called, memory_logged, opening_on, refusals, unended, untreated}
 use Rattle.relay_proxy.proofs.OpenSteps.{called_tries, hooks_leave, hooks_lost, none_tried, opened_on}
 use Rattle.relay_proxy.proofs.opening.open.Goals as goal
 
@@ -82,45 +82,6 @@ returns-in-Answered-clause-called g c =
     c.owe.result.work (known_at _ _ c.in-Answered.ensures.shown (λ lost. cc))
     (rw c.owe.ensures.work (omega arith)))
 
--- or it is a purge
-pub returns-in-Purges-clause-run : goal.returns-in-Purges-clause-run
-returns-in-Purges-clause-run g c = λ s p w o run.
-    let done = purged _ (g.SV.ProxyHttp.mark_of c.args.app.now) c.args.calls.now
-    c.call_next.new.calls c.args.context c.call_next.new.context c.args.session.value
-    c.call_next.new.client (rw c.deref_mut.ensures.value at c.in-Purges.ensures.turns)
-    (sym c.in-Purges.ensures.shown) s p w c.args.tries o run.holds in
-    subst (λ (l : List LogEntry). Advances g.L.ByteLink.state g.L.ByteLink.start (opened_to s l) w
-    c.turn_down.result.phase) (sym (owing_log _ _ _ _ _ c.turn_down.ensures.calls.1))
-    (c.turn_down.ensures.run s (log_of c.args.calls.now) (log_of c.call_next.new.calls) p w
-    c.args.context c.args.session done.head done.is_open done.request done.place done.accepted
-    done.order
-    (untreated _ (g.SV.ProxyHttp.mark_of c.args.app.now) c.args.calls.now c.call_next.new.calls
-    c.args.context c.call_next.new.context c.args.session.value c.call_next.new.client
-    (rw c.deref_mut.ensures.value at c.in-Purges.ensures.turns) o.untreated)
-    (called_tries s (log_of c.args.calls.now) (log_of c.call_next.new.calls) c.args.tries
-    (refusals _ (g.SV.ProxyHttp.mark_of c.args.app.now) c.args.calls.now c.call_next.new.calls
-    c.args.context c.call_next.new.context c.args.session.value c.call_next.new.client
-    (rw c.deref_mut.ensures.value at c.in-Purges.ensures.turns)) run.holds.are_tries) run)
-
-pub returns-in-Purges-clause-calls : goal.returns-in-Purges-clause-calls
-returns-in-Purges-clause-calls g c = λ o.
-    owing_on _ (g.SV.ProxyHttp.mark_of c.args.app.now) c.call_next.new.calls c.turn_down.new.calls
-    c.turn_down.ensures.calls.0 _ c.turn_down.result.phase c.turn_down.ensures.calls.1
-    (purged_owing _ (g.SV.ProxyHttp.mark_of c.args.app.now) c.args.calls.now
-    c.call_next.new.calls c.args.context c.call_next.new.context c.args.session.value
-    c.call_next.new.client (rw c.deref_mut.ensures.value at c.in-Purges.ensures.turns)
-    (sym c.in-Purges.ensures.shown) c.args.tries c.turn_down.ensures.calls.0 _ o)
-
-pub returns-in-Purges-clause-called : goal.returns-in-Purges-clause-called
-returns-in-Purges-clause-called g c =
-    counted_still c.args.calls.now c.call_next.new.calls c.turn_down.new.calls
-    c.turn_down.result.work (owing_log _ _ _ _ _ c.turn_down.ensures.calls.1)
-    (counts_called _ (g.SV.ProxyHttp.mark_of c.args.app.now) c.args.calls.now
-    c.call_next.new.calls c.args.context c.call_next.new.context c.args.session.value
-    c.call_next.new.client (rw c.deref_mut.ensures.value at c.in-Purges.ensures.turns)
-    c.turn_down.result.work (known_at _ _ c.in-Purges.ensures.shown (λ lost. cc))
-    c.turn_down.ensures.called)
-
 -- or memory was wanted
 pub returns-in-OutOfMemory-clause-run : goal.returns-in-OutOfMemory-clause-run
 returns-in-OutOfMemory-clause-run g c = λ s p w o run.
@@ -160,14 +121,6 @@ returns-in-Answered-clause-unended g c = λ none.
     (unended _ (g.SV.ProxyHttp.mark_of c.args.app.now) c.args.calls.now c.call_next.new.calls
     c.args.context c.call_next.new.context c.args.session.value c.call_next.new.client
     (rw c.deref_mut.ensures.value at c.in-Answered.ensures.turns) none)
-
-pub returns-in-Purges-clause-unended : goal.returns-in-Purges-clause-unended
-returns-in-Purges-clause-unended g c = λ none.
-    subst (λ (l : List LogEntry). IsUnended l)
-    (sym (owing_log _ _ _ _ _ c.turn_down.ensures.calls.1))
-    (unended _ (g.SV.ProxyHttp.mark_of c.args.app.now) c.args.calls.now c.call_next.new.calls
-    c.args.context c.call_next.new.context c.args.session.value c.call_next.new.client
-    (rw c.deref_mut.ensures.value at c.in-Purges.ensures.turns) none)
 
 pub returns-in-OutOfMemory-clause-unended : goal.returns-in-OutOfMemory-clause-unended
 returns-in-OutOfMemory-clause-unended g c = λ none.

@@ -1,13 +1,15 @@
 -- An error is answered, or the hook that comes next is called; where neither is due, the connector
 -- is asked.
-use Rattle.std.proofs.Common.{[], List, ap, refl, sym, subst}
-use Rattle.relay_proxy.specs.Calls.{log_of}
+use Rattle.std.proofs.Common.{[], List, ap, refl, sym, subst, ◌∙◌}
+use Rattle.relay_proxy.specs.Calls.{log_of, station_at}
 use Rattle.relay_proxy.specs.Passed.{Start}
 use Rattle.relay_proxy.specs.Phases.{RunSoFar}
 use Rattle.relay_proxy.specs.Refusals.{faults_told}
 use Rattle.relay_proxy.specs.Turn.{Advances, world_with}
 use Rattle.relay_proxy.specs.declared.machine.Phase.TheVariants as phase
 use Rattle.relay_proxy.specs.declared.record.AttemptRecord.{AttemptRecord}
+use Rattle.relay_proxy.proofs.LastCalls.{calls_logged}
+use Rattle.relay_proxy.proofs.PurgeSteps.{asks_nothing, final_unpurged, opens_elsewhere}
 use Rattle.relay_proxy.proofs.TakenLemmas.{none_asked}
 use Rattle.relay_proxy.proofs.TreatLemmas.{still_open}
 use Rattle.relay_proxy.proofs.opening.reach.Goals as goal
@@ -74,3 +76,57 @@ returns-clause-run g c = λ s p client ahead limit o run.
 -- and the application may be told of it
 pub returns-clause-calls : goal.returns-clause-calls
 returns-clause-calls g c = λ o. c.connect.ensures.calls o
+
+-- the purger is asked in the turn of a purge alone
+pub returns-in-Some-clause-purger : goal.returns-in-Some-clause-purger
+returns-in-Some-clause-purger g c = λ o.
+    let logged = calls_logged _ _ c.answer.new.calls c.answer.result.phase
+    (c.answer.ensures.calls o) in
+    asks_nothing _ _ c.args.calls.now c.answer.new.calls c.answer.result.phase
+    (station_at c.args.calls.now.at) logged.0 refl o.order
+    (opens_elsewhere c.args.calls.now.at
+    (final_unpurged c.args.calls.now.at c.in-Some.error (sym c.final_error.ensures ∙ c.in-Some.is)))
+    logged.1.order c.answer.ensures.called.grows c.answer.ensures.called.once
+
+pub returns-then-is_calling-clause-purger : goal.returns-then-is_calling-clause-purger
+returns-then-is_calling-clause-purger g c = λ o.
+    let logged = calls_logged _ _ c.open.new.calls c.open.result.phase (c.open.ensures.calls o) in
+    asks_nothing _ _ c.args.calls.now c.open.new.calls c.open.result.phase
+    (station_at c.args.calls.now.at) logged.0 refl o.order
+    (opens_elsewhere c.args.calls.now.at (sym c.purge.ensures ∙ c.in_default-purge.is))
+    logged.1.order c.open.ensures.called.grows c.open.ensures.called.once
+
+pub returns-clause-purger : goal.returns-clause-purger
+returns-clause-purger g c = λ o.
+    let logged = calls_logged _ _ c.connect.new.calls c.connect.result.phase
+    (c.connect.ensures.calls o) in
+    asks_nothing _ _ c.args.calls.now c.connect.new.calls c.connect.result.phase
+    (station_at c.args.calls.now.at) logged.0 refl o.order
+    (opens_elsewhere c.args.calls.now.at (sym c.purge.ensures ∙ c.in_default-purge.is))
+    logged.1.order c.connect.ensures.called.grows c.connect.ensures.called.once
+
+-- a purge is done, and the connector is not asked
+pub returns-in-Some-purge-clause-run : goal.returns-in-Some-purge-clause-run
+returns-in-Some-purge-clause-run g c = λ s p client ahead limit o run.
+    let w = world_with client ahead (g.K.Connector.fault_count c.args.connector.now) in
+    subst
+    (λ (t : Start). Advances g.K.Byte.ByteLink.state g.K.Byte.ByteLink.start t w
+    c.purge-in-Some-purge.result.phase)
+    (sym (still_open s (log_of c.purge-in-Some-purge.new.calls)
+    (c.purge-in-Some-purge.ensures.unended o.unended)))
+    (c.purge-in-Some-purge.ensures.run s p w o
+    (subst
+    (λ (t : Start). RunSoFar g.K.Byte.ByteLink.state g.K.Byte.ByteLink.start t p w []
+    (phase.Connect c.args.context c.args.session c.args.tries))
+    (still_open s (log_of c.args.calls.now) o.unended) run))
+
+pub returns-in-Some-purge-clause-cause : goal.returns-in-Some-purge-clause-cause
+returns-in-Some-purge-clause-cause g c = λ client ahead.
+    c.purge-in-Some-purge.ensures.cause
+    (world_with client ahead (g.K.Connector.fault_count c.args.connector.now))
+
+pub returns-in-Some-purge-clause-asks : goal.returns-in-Some-purge-clause-asks
+returns-in-Some-purge-clause-asks g c =
+    none_asked _ _ _ _ _ _ _
+    (ap (λ (xs : List AttemptRecord). faults_told xs) c.purge-in-Some-purge.ensures.attempts)
+    c.purge-in-Some-purge.ensures.no_items refl refl

@@ -1,11 +1,16 @@
 -- A turn of a phase that does not relay. One that does not ask the connector leaves its count of
 -- faults as it was.
-use Rattle.std.proofs.Common.{[], ◌++◌, List, refl, sym, ap, subst, ◌∙◌, inr, true≢false, append-nil, arith}
+use Rattle.std.proofs.Common.{[], ◌++◌, List, Some, refl, sym, ap, subst, ◌∙◌, inr, true≢false, append-nil, arith}
 use Rattle.relay_tasks.specs.declared.Fault.{Fault}
 use Rattle.relay_links.specs.Told.{Gains}
 use Rattle.relay_proxy.specs.Refusals.{faults_told}
 use Rattle.relay_proxy.specs.declared.record.AttemptRecord.{AttemptRecord}
-use Rattle.relay_proxy.specs.Calls.{log_of}
+use Rattle.relay_tasks.specs.declared.log.LogEntry.{LogEntry}
+use Rattle.relay_phases.specs.Order.{next_behind}
+use Rattle.relay_phases.specs.Order.{Station as station}
+use Rattle.relay_proxy.specs.Calls.{log_of, purge_at, station_at}
+use Rattle.relay_proxy.specs.Purging.{AsksPurger}
+use Rattle.relay_proxy.specs.declared.calls.At.{At}
 use Rattle.relay_proxy.specs.Passed.{called_to}
 use Rattle.relay_proxy.specs.Turn.{world_of}
 use Rattle.relay_proxy.proofs.BoundLemmas.{answer_bounds, head_turn_bounds, link_turn_bounds, send_turn_bounds, treat_turn_bounds}
@@ -14,7 +19,8 @@ use Rattle.relay_proxy.proofs.TakenLemmas.{takes_nothing, takes_more, took_more,
 use Rattle.relay_proxy.proofs.TurnLemmas.{broken_counts, broken_faults, broken_offers, broken_turn, head_turn, connect_turn, none_unended, open_step, prepare_turn, head_counts, still_counts, connect_counts, prepare_counts, prepare_faults, prepare_offers, unlinked_asked, unlinked_offers, unlinked_open, unlinked_turn, unlinked_turn_bounds, answer_offers}
 use Rattle.relay_proxy.proofs.CallLemmas.{none_called}
 use Rattle.relay_proxy.proofs.CountLemmas.{client_both}
-use Rattle.relay_proxy.proofs.LastCalls.{owing_on}
+use Rattle.relay_proxy.proofs.LastCalls.{calls_logged, owing_on}
+use Rattle.relay_proxy.proofs.PurgeSteps.{asks_nothing, asks_still, breaks_elsewhere, fails_elsewhere, opens_elsewhere}
 use Rattle.relay_proxy.proofs.turn.move_on.Goals as goal
 
 -- a turn that reads the head is a turn
@@ -686,3 +692,60 @@ returns-in-Answer-clause-called g c =
     rw c.go_on-in-Answer.ensures.work
     (none_called c.args.calls.now c.write_answer.new.calls c.write_answer.result.work
     c.write_answer.ensures.uncalled c.write_answer.ensures.log)
+
+-- the purger is asked in the turn of a purge alone
+pub returns-in-ReadHead-clause-purger : goal.returns-in-ReadHead-clause-purger
+returns-in-ReadHead-clause-purger g c =
+    rw (c.go_on.ensures.phase, sym c.replace.ensures.value ∙ c.in-ReadHead.is) (λ o.
+    let logged = calls_logged _ _ c.read_head.new.calls c.read_head.result.phase (c.read_head.ensures.calls o) in
+    asks_nothing _ _ c.args.calls.now c.read_head.new.calls c.read_head.result.phase
+    station.accepted logged.0 refl (ap (λ (l : List LogEntry). next_behind (Some station.accepted) l) o) (λ is. cc)
+    logged.1.order c.read_head.ensures.called.grows c.read_head.ensures.called.once)
+
+pub returns-in-Unlinked-clause-purger : goal.returns-in-Unlinked-clause-purger
+returns-in-Unlinked-clause-purger g c =
+    rw (c.go_on-in-Unlinked.ensures.phase, sym c.replace.ensures.value ∙ c.in-Unlinked.is) (λ o.
+    let logged = calls_logged _ _ c.answer_unlinked.new.calls c.answer_unlinked.result.phase (c.answer_unlinked.ensures.calls o) in
+    asks_nothing _ _ c.args.calls.now c.answer_unlinked.new.calls c.answer_unlinked.result.phase
+    o.at logged.0 refl o.order (fails_elsewhere o.at o.fails)
+    logged.1.order c.answer_unlinked.ensures.called.grows c.answer_unlinked.ensures.called.once)
+
+pub returns-in-Prepare-clause-purger : goal.returns-in-Prepare-clause-purger
+returns-in-Prepare-clause-purger g c =
+    rw (c.go_on-in-Prepare.ensures.phase, sym c.replace.ensures.value ∙ c.in-Prepare.is) (λ o.
+    let logged = calls_logged _ _ c.prepare.new.calls c.prepare.result.phase (c.prepare.ensures.calls o) in
+    asks_nothing _ _ c.args.calls.now c.prepare.new.calls c.prepare.result.phase
+    (station_at c.args.calls.now.at) logged.0 refl o.0.order
+    (opens_elsewhere c.args.calls.now.at (ap (λ (a : At _ _). purge_at a) o.1))
+    logged.1.order c.prepare.ensures.called.grows c.prepare.ensures.called.once)
+
+pub returns-in-Broken-clause-purger : goal.returns-in-Broken-clause-purger
+returns-in-Broken-clause-purger g c =
+    rw (c.go_on-in-Broken.ensures.phase, sym c.replace.ensures.value ∙ c.in-Broken.is) (λ o.
+    let logged = calls_logged _ _ c.fail.new.calls c.fail.result.phase (c.fail.ensures.calls o) in
+    asks_nothing _ _ c.args.calls.now c.fail.new.calls c.fail.result.phase
+    o.at logged.0 refl o.order
+    (breaks_elsewhere c.args.calls.now.at (log_of c.args.calls.now) c.in-Broken.error o.at o.breaks)
+    logged.1.order c.fail.ensures.called.grows c.fail.ensures.called.once)
+
+pub returns-in-Connect-clause-purger : goal.returns-in-Connect-clause-purger
+returns-in-Connect-clause-purger g c =
+    rw (c.go_on-in-Connect.ensures.phase, sym c.replace.ensures.value ∙ c.in-Connect.is)
+    c.reach.ensures.purger
+
+pub returns-in-Answer-clause-purger : goal.returns-in-Answer-clause-purger
+returns-in-Answer-clause-purger g c = λ so_far.
+    asks_still _ _ c.args.calls.now c.write_answer.new.calls c.go_on-in-Answer.new.self refl
+    c.write_answer.ensures.log
+
+pub returns-in-Again-clause-purger : goal.returns-in-Again-clause-purger
+returns-in-Again-clause-purger g c = λ so_far. AsksPurger.nothing refl refl
+
+pub returns-in-Fail-clause-purger : goal.returns-in-Fail-clause-purger
+returns-in-Fail-clause-purger g c = λ so_far. AsksPurger.nothing refl refl
+
+pub returns-in-Close-clause-purger : goal.returns-in-Close-clause-purger
+returns-in-Close-clause-purger g c = λ so_far. AsksPurger.nothing refl refl
+
+pub returns-in-Ended-clause-purger : goal.returns-in-Ended-clause-purger
+returns-in-Ended-clause-purger g c = λ so_far. AsksPurger.nothing refl refl

@@ -6,6 +6,7 @@ use Rattle.relay_proxy.specs.Turn.{world_of}
 use Rattle.relay_proxy.proofs.BoundLemmas.{relay_turn_bounds}
 use Rattle.relay_proxy.proofs.CallLemmas.{none_called}
 use Rattle.relay_proxy.proofs.LastCalls.{relaying_calls}
+use Rattle.relay_proxy.proofs.PurgeSteps.{asks_still}
 use Rattle.relay_proxy.proofs.RefusalLemmas.{none_added}
 use Rattle.relay_proxy.proofs.TakenLemmas.{takes_nothing}
 use Rattle.relay_proxy.proofs.TurnLemmas.{relaying_turn, relaying_rests, relaying_uses, relaying_counts, relaying_works, relaying_tells, relaying_unrefused, relaying_takes, relaying_carries, not_relaying}
@@ -133,3 +134,8 @@ pub returns-then-is_relaying-clause-called : goal.returns-then-is_relaying-claus
 returns-then-is_relaying-clause-called g c =
     none_called c.args.calls.now c.relay.new.calls c.relay.result.work c.relay.ensures.uncalled
     c.relay.ensures.log
+
+-- nor is the purger asked
+pub returns-then-is_relaying-clause-purger : goal.returns-then-is_relaying-clause-purger
+returns-then-is_relaying-clause-purger g c = λ so_far.
+    asks_still _ _ c.args.calls.now c.relay.new.calls c.relay.new.phase refl c.relay.ensures.log

@@ -4,6 +4,7 @@ use Rattle.relay_tasks.specs.declared.log.LogEntry.{LogEntry}
 use Rattle.relay_proxy.specs.Calls.{log_of}
 use Rattle.relay_proxy.specs.Passed.{called_to}
 use Rattle.relay_proxy.specs.declared.work.Work.{Work}
+use Rattle.relay_proxy.proofs.PurgeSteps.{settled_purger}
 use Rattle.relay_proxy.proofs.StepLemmas.{step_on, settled_cause}
 use Rattle.relay_proxy.proofs.UseLemmas.{moves_on, settled_moves, settled_uses}
 use Rattle.relay_proxy.proofs.proxy.HttpProxy.advance.Goals as goal
@@ -58,3 +59,9 @@ returns-clause-moves g c = λ a is did.
     (settled_moves g.K.Byte.ByteLink.state g.K.Byte.ByteLink.start _ _
     c.take_turn-step.result.work a.value.exchange c.take_turn-step.new.phase
     c.settle.new.phase _ _ c.settle.ensures.settles (c.take_turn-step.ensures.moves a is did)))
+
+-- what it asked the purger is what the turn asked
+pub returns-clause-purger : goal.returns-clause-purger
+returns-clause-purger g c = λ so_far.
+    settled_purger _ _ _ _ c.take_turn-step.new.phase c.settle.new.phase _ _
+    c.settle.ensures.settles (c.take_turn-step.ensures.purger so_far)

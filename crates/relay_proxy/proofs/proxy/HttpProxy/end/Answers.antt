@@ -2,7 +2,7 @@
 use Rattle.std.proofs.Common.{◌∙◌}
 use Rattle.relay_proxy.specs.Calls.{allowed_by}
 use Rattle.relay_proxy.specs.Turn.{world_of}
-use Rattle.relay_proxy.proofs.EndSteps.{finishes_came, keeps_by, undone_limit}
+use Rattle.relay_proxy.proofs.EndSteps.{finishes_came, keeps_by, lost_gives, undone_limit}
 use Rattle.relay_proxy.proofs.StepLemmas.{end_of, over_end}
 use Rattle.relay_proxy.proofs.proxy.HttpProxy.end.Goals as goal
 
@@ -56,3 +56,12 @@ returns-clause-keeps g c = λ so_far some.
     (g.K.Connector.returned c.finish-ending.new.connector) c.finish-ending.result
     c.finish-ending.ensures.finishes) c.outcome-outcome.ensures so_far
     (rw (c.kept_of-kept.ensures, c.into_parts-log.ensures.kept) at some))
+
+-- one that ended for want of memory gives that
+pub returns-clause-lost : goal.returns-clause-lost
+returns-clause-lost g c = λ lost.
+    lost_gives c.args.machine.machine.phase c.args.machine.calls.at c.finish-ending.result.outcome
+    c.outcome-outcome.result lost
+    (finishes_came c.args.machine.machine.phase (g.K.Connector.returned c.args.self.now.connector)
+    (g.K.Connector.returned c.finish-ending.new.connector) c.finish-ending.result
+    c.finish-ending.ensures.finishes) c.outcome-outcome.ensures

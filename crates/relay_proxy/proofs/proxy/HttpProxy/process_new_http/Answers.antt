@@ -1,5 +1,5 @@
 -- The steps add up to the whole request.
-use Rattle.std.proofs.Common.{◌≡◌, List, [], ◌∙◌, ◌+◌, ◌≤◌, arith, refl, ap, subst, sym}
+use Rattle.std.proofs.Common.{◌≡◌, List, [], ◌∙◌, ◌+◌, ◌≤◌, arith, inl, refl, ap, subst, sym, true≢false}
 use Rattle.relay_tasks.specs.declared.log.LogEntry.{LogEntry}
 use Rattle.relay_links.specs.Count.{last_count}
 use Rattle.relay_phases.specs.Order.{Station}
@@ -13,6 +13,7 @@ use Rattle.relay_proxy.specs.declared.proxy.Outside.{Outside}
 use Rattle.relay_proxy.proofs.EndSteps.{done_gives, gives_by}
 use Rattle.relay_proxy.proofs.LastCalls.{calls_logged}
 use Rattle.relay_proxy.proofs.LegLemmas.{behind_first, behind_most}
+use Rattle.relay_proxy.proofs.PurgeSteps.{lost_done, purged_end, purged_first, purged_on}
 use Rattle.relay_proxy.proofs.UnderWay.{begun, goes_on, all_taken, steps_under, stopped, one_more, no_end, stops_at}
 use Rattle.relay_proxy.proofs.proxy.HttpProxy.process_new_http.Goals as goal
 
@@ -42,6 +43,7 @@ loop-turn-init g c =
       c.begin-machine.ensures.calls,
       omega (arith, c.begin-machine.ensures.uncalled),
       rw c.take_kept-kept.ensures.after at c.begin-machine.ensures.first,
+      rw c.begin-machine.ensures.no_log (purged_first (g.P.Purger.state c.args.self.now.purger)),
     )
 
 -- a step that stops ends the request
@@ -135,7 +137,10 @@ loop-turn-preserved g c =
       c.step-step.ensures.ended ∙ no_end c.step-step.result goes,
       c.step-step.ensures.same
           ∙ ap (λ (k : HttpProxy g.row.SV.Denot g.row.K.Denot g.row.P.Denot).
-          record k { connector = c.step-step.new.self.connector }) c.loop-turn.invariant.6,
+          record k {
+            connector = c.step-step.new.self.connector;
+            purger = c.step-step.new.self.purger;
+          }) c.loop-turn.invariant.6,
       c.step-step.ensures.worked c.loop-turn.invariant.7,
       c.step-step.ensures.outside ∙ ap
           (λ (o : Outside g.row.H.Denot g.row.W.Denot g.row.Y.Denot).
@@ -144,6 +149,14 @@ loop-turn-preserved g c =
       rw c.step-step.ensures.same (c.step-step.ensures.calls c.loop-turn.invariant.9),
       c.step-step.ensures.logs c.loop-turn.invariant.10,
       c.step-step.ensures.first ∙ c.loop-turn.invariant.11,
+      purged_on (g.P.Purger.state c.args.self.now.purger)
+          (g.P.Purger.state c.loop-turn.self.purger) (g.P.Purger.state c.step-step.new.self.purger)
+          (log_of c.loop-turn.machine.calls) c.loop-turn.invariant.12 (log_of c.step-step.new.machine.calls)
+          c.step-step.new.machine.machine.phase
+          (λ lost. true≢false
+          (sym (lost_done c.step-step.new.machine.machine.phase c.step-step.new.machine.calls.at
+          lost) ∙ c.step-step.ensures.ended ∙ no_end c.step-step.result goes))
+          (c.step-step.ensures.purger c.loop-turn.invariant.9),
     )
 
 -- where all turns were taken the request ends by its limit
@@ -219,3 +232,18 @@ returns-then-is_stop-clause-kept g c = λ some.
 pub returns-clause-kept : goal.returns-clause-kept
 returns-clause-kept g c = λ some.
     c.close-2.ensures.keeps c.loop-turn.invariant.9 c.loop-turn.invariant.4 some
+
+-- the purger was asked what the log tells, where a step stopped
+pub returns-then-is_stop-clause-purger : goal.returns-then-is_stop-clause-purger
+returns-then-is_stop-clause-purger g c =
+    rw (c.close.ensures.same, c.close.ensures.log)
+    (purged_end (g.P.Purger.state c.args.self.now.purger)
+    (g.P.Purger.state c.loop-turn.self.purger) (g.P.Purger.state c.step-step.new.self.purger)
+    (log_of c.loop-turn.machine.calls) c.loop-turn.invariant.12 (log_of c.step-step.new.machine.calls)
+    c.step-step.new.machine.machine.phase c.close.result.outcome c.close.ensures.lost
+    (c.step-step.ensures.purger c.loop-turn.invariant.9))
+
+-- and where all turns were taken
+pub returns-clause-purger : goal.returns-clause-purger
+returns-clause-purger g c =
+    rw (c.close-2.ensures.same, c.close-2.ensures.log) (inl c.loop-turn.invariant.12)

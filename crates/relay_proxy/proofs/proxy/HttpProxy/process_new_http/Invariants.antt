@@ -1,5 +1,7 @@
 -- What holds between two steps of the call.
 use Rattle.std.proofs.Common.{◌≡◌, ◌+◌, ◌≤◌, [], length, None, false}
+use Rattle.relay_links.specs.Told.{more}
+use Rattle.relay_purging.specs.Told.{purges_in}
 use Rattle.relay_proxy.specs.Calls.{CallsSoFar, allowed_by, log_of}
 use Rattle.relay_proxy.specs.Passed.{start_of}
 use Rattle.relay_proxy.specs.Request.{is_done}
@@ -32,10 +34,12 @@ invariant-loop-turn g l =
     + links_held g.K.Byte.ByteLink.state g.K.Byte.ByteLink.start l.machine.machine.phase)
     × (l.client.kept ≡ None)
     × (is_done l.machine.machine.phase l.machine.calls.at ≡ false)
-    × (l.self ≡ record l.fn.self { connector = l.self.connector })
+    × (l.self ≡ record l.fn.self { connector = l.self.connector; purger = l.self.purger })
     × (l.machine.machine.turns ≤ total_work l.machine.machine.work)
     × (l.outside ≡ record l.fn.outside { schedule = l.outside.schedule })
     × CallsSoFar (allowed_by (g.SV.ProxyHttp.allows l.self.inner) g.SV.Modules.HttpModule.allows)
     (g.SV.ProxyHttp.mark_of l.self.inner) l.machine.calls l.machine.machine.phase
     × (l.machine.machine.work.called ≤ length (log_of l.machine.calls))
     × (l.machine.machine.first ≡ (g.D.ByteLink.state l.fn.client.link).faults)
+    × ((g.P.Purger.state l.self.purger).told
+    ≡ more (g.P.Purger.state l.fn.self.purger).told (purges_in (log_of l.machine.calls)))

@@ -7,7 +7,8 @@ use Rattle.relay_proxy.specs.Turn.{held_state, world_of}
 use Rattle.relay_proxy.specs.declared.machine.Phase.{Phase}
 use Rattle.relay_proxy.specs.declared.work.Work.{Work}
 use Rattle.relay_proxy.specs.declared.work.TheConstants.Work.{NONE}
-use Rattle.relay_proxy.proofs.EndSteps.{calls_last, last_on, rests_on, rests_uses}
+use Rattle.relay_proxy.proofs.EndSteps.{calls_last, last_elsewhere, last_on, rests_on, rests_uses}
+use Rattle.relay_proxy.proofs.PurgeSteps.{asks_nothing, asks_still}
 use Rattle.relay_proxy.proofs.proxy.HttpProxy.step.Goals as goal
 
 -- the calls so far go on with that of such a hook
@@ -86,3 +87,21 @@ returns-then-is_over-clause-uses g c = λ s p own run. (
       (held_state g.K.Byte.ByteLink.state c.args.machine.now.machine.phase)
       (g.K.Connector.returned c.args.self.now.connector) refl),
 )
+
+-- a hook of the end is none of a purge
+pub returns-in-Some-clause-purger : goal.returns-in-Some-clause-purger
+returns-in-Some-clause-purger g c = λ so_far.
+    let last = last_elsewhere (allowed_by (g.SV.ProxyHttp.allows c.args.self.now.inner)
+    g.SV.Modules.HttpModule.allows) (g.SV.ProxyHttp.mark_of c.args.self.now.inner)
+    c.args.machine.now.calls c.call_last.new.machine.calls c.args.machine.now.machine.phase
+    c.in-Some.goes_back (sym c.goes_on_last.ensures ∙ c.in-Some.is) c.call_last.ensures.calls
+    so_far in
+    asks_nothing _ _ c.args.machine.now.calls c.call_last.new.machine.calls
+    c.call_last.new.machine.machine.phase last.0.here last.1.0 refl last.0.order last.0.elsewhere
+    last.1.1.order c.call_last.ensures.counts.calls.grows c.call_last.ensures.counts.calls.once
+
+-- and where none is called nothing is asked
+pub returns-then-is_over-clause-purger : goal.returns-then-is_over-clause-purger
+returns-then-is_over-clause-purger g c = λ so_far.
+    asks_still _ _ c.args.machine.now.calls c.rest.new.self.calls c.rest.new.self.machine.phase refl
+    (rw c.rest.ensures.same refl)
