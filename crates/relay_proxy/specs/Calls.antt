@@ -388,7 +388,8 @@ module _ (allows : Standing → LogEntry → Type 0) where
         → (there : Place K) → to ≡ at.Opening there
         → TurnsTo allows which (station_at here) old before new behind there
         → TakesNext here has_modules old before new behind to
-    asks : AsksPurge here old before new behind to → TakesNext here has_modules old before new behind to
+    asks : AsksPurge here old before new behind to
+        → TakesNext here has_modules old before new behind to
     tried : CallsOfAttempt here has_modules old before new behind to
         → TakesNext here has_modules old before new behind to
     lost : to ≡ at.Opening place.Lost → new.log ≡ old.log

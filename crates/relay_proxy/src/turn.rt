@@ -32,10 +32,10 @@ use relay_links::{ByteLink, Connector, Purger, Schedule};
 use std::alloc::Global;
 use std::mem;
 
-/// One turn: one call of one link, of the connector or of a hook, one of the purger with that behind
-/// it, one verdict on a head, or one branch of the duplex. A request makes `most` attempts at most, and as it began, `first` calls of
-/// the client's link had failed. A phase that relays is turned where it stands, since it has the
-/// most turns.
+/// One turn: one call of one link, of the connector or of a hook, one of the purger with that of a
+/// hook behind it, one verdict on a head, or one branch of the duplex. A request makes `most`
+/// attempts at most, and as it began, `first` calls of the client's link had failed. A phase that
+/// relays is turned where it stands, since it has the most turns.
 pub(crate) fn take_turn<SV: ProxyHttp, K: Connector, P: Purger, D: ByteLink, U: Drop, H: Schedule>(
     alloc: Global,
     hooks: &SV,

@@ -1153,7 +1153,11 @@ module _ {SV K P L C D U M : Type 0}
       → out r.connector + all_held state start_at (next ∷ rest)
       ≡ out q.connector + all_held state start_at last
       → CountRises q.requests_ended r.requests_ended
-      → r ≡ record q { connector = r.connector; requests_ended = r.requests_ended }
+      → r ≡ record q {
+        connector = r.connector;
+        purger = r.purger;
+        requests_ended = r.requests_ended;
+      }
       → ServesOn state start_at client_state allows modules mark_of returned out faults p r
       (visit ∷ rest) last
   on_ended p q r visit next rest last ends held same serves held_on rises same_on = record {
@@ -1161,13 +1165,11 @@ module _ {SV K P L C D U M : Type 0}
     held = omega (arith, held, held_on);
     counted = subst (λ (n : ℕ). CountRises n r.requests_ended)
         (ap (λ (k : HttpProxy SV K P). k.requests_ended) same) rises;
-    same = same_on ∙ ap (λ (k : HttpProxy SV K P).
-        record k { connector = r.connector; requests_ended = r.requests_ended }) same
-        ∙ ap (λ (u : P). record p {
-          connector = r.connector;
-          purger = u;
-          requests_ended = r.requests_ended;
-        }) (sym (ap (λ (k : HttpProxy SV K P). k.purger) same_on));
+    same = same_on ∙ ap (λ (k : HttpProxy SV K P). record k {
+      connector = r.connector;
+      purger = r.purger;
+      requests_ended = r.requests_ended;
+    }) same;
   }
 
   -- a server that gave a request up

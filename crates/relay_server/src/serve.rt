@@ -397,6 +397,7 @@ fn end_taken<SV: ProxyHttp, K: Connector, P: Purger, O: Poller>(
     ensures counted { CountRises proxy.old.requests_ended proxy.new.requests_ended }
     ensures same { proxy.new ≡ record proxy.old {
       connector = proxy.new.connector;
+      purger = proxy.new.purger;
       requests_ended = proxy.new.requests_ended;
     } }
     ensures last { IsPutLast floor.old floor.new }
