@@ -57,7 +57,7 @@ kept_memory st known is = absurd (true≢false (sym (ap is_lost is) ∙ known))
 -- ---- an answer over another session
 
 -- what holds of each past holds of that of an answer
-goes_so : (holds holds' : DownPast → Type 0) (blames : DownPast → Error → Type 0)
+pub goes_so : (holds holds' : DownPast → Type 0) (blames : DownPast → Error → Type 0)
     (put batched closing : List HttpTask) (error : Option Error)
     → ((q : DownPast) → holds q → holds' q) → DownGoes holds blames put batched closing error
     → DownGoes holds' blames put batched closing error
@@ -70,7 +70,7 @@ goes_so holds holds' blames put batched closing error so g = record {
   blamed = g.blamed;
 }
 
-refused_so : (holds holds' : DownPast → Type 0)
+pub refused_so : (holds holds' : DownPast → Type 0)
     (refuses : DownPast → List HttpTask → Error → Type 0) (p : DownPast) (tasks : List HttpTask)
     (why : Fail) → ((q : DownPast) → holds q → holds' q)
     → BatchRefused holds refuses p tasks why → BatchRefused holds' refuses p tasks why

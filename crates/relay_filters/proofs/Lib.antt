@@ -9,3 +9,4 @@ mod SideLemmas
 mod MoveLemmas
 mod LentSide
 mod StateLemmas
+mod QuietLemmas

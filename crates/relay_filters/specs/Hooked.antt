@@ -19,7 +19,7 @@ use Rattle.relay_hooks.specs.Standing.{Standing, standing}
 use Rattle.relay_hooks.specs.Session.{moment}
 use Rattle.relay_calls.specs.Log.{Walk, requests_in}
 use Rattle.relay_sides.specs.Client.{IsSide, state_of}
-use Rattle.relay_sides.specs.Filtered.{is_head_request}
+use Rattle.relay_sides.specs.Filtered.{is_head_request, stops_for_error}
 use Rattle.relay_sides.specs.declared.client_side.ClientSide.{ClientSide}
 use Rattle.relay_filters.specs.Chain.{Refuses}
 use Rattle.relay_filters.specs.Request.{PassesRequest}
@@ -148,6 +148,25 @@ pub record IsHooked (inner : DownPast → Type 0) (allows : Standing → LogEntr
   pub head : stopped ≡ None → IsSome (head_of seen.downstream.reading)
   -- the side stopped for what its last call answered or left
   pub told : (e : Error) → stopped ≡ Some (fail.Error e) → Refuses of_head e own
+
+-- what the errors that the side told say of those of its inner one: where it told none, the inner
+-- one told none, and no filter stopped the side for one; where it told one alone, the inner one told
+-- none, or that one alone, and no filter stopped the side for one
+pub record IsQuiet (stopped : Option Fail) (told inner_told : Told) : Type 0 where
+  pub none : told.errors ≡ 0
+      → (inner_told.errors ≡ 0) × (stops_for_error stopped ≡ false)
+  pub one : told.errors ≡ 1 → (inner_told.errors ≡ 0)
+      ⊎ ((inner_told.errors ≡ 1) × (inner_told.last ≡ told.last)
+      × (stops_for_error stopped ≡ false))
+
+-- the past of a side: what passed, and what its errors say of it
+pub record HookedPast (inner : DownPast → Type 0) (allows : Standing → LogEntry → Type 0)
+    (method : List ℕ) (seen : Seen) (mark first : ℕ)
+    (of_head at_first ended upgraded refused stood : Bool) (stopped : Option Fail)
+    (told inner_told : Told) (p : DownPast) : Type 0 where
+  pub passed : IsHooked inner allows method seen mark first of_head at_first ended upgraded refused
+      stood stopped p
+  pub quiet : IsQuiet stopped told inner_told
 
 -- the side answers for an error: its inner one does, or it stopped for it
 abbrev pub BlamesOver : (DownPast → Type 0) → (DownPast → Error → Type 0) → Option Fail → DownPast

@@ -9,7 +9,7 @@ ghost use Rattle.relay_sides.specs.Filtered.{is_head_request};
 ghost use Rattle.relay_calls.specs.Log.{IsAllowed};
 ghost use Rattle.relay_filters.specs.Response.{SomeAllow};
 ghost use Rattle.relay_filters.specs.Delay.{delays_of};
-ghost use Rattle.relay_filters.specs.Hooked.{BlamesOver, InnerPast, IsHooked, PastBy, RefusesOver, failure_in_front, is_lost, refused_at_once, seen_by, state_of_side, state_over, stood_head};
+ghost use Rattle.relay_filters.specs.Hooked.{BlamesOver, HookedPast, InnerPast, PastBy, RefusesOver, failure_in_front, is_lost, refused_at_once, seen_by, state_of_side, state_over, stood_head};
 
 use crate::lent::{pass_piece, pass_tasks};
 use crate::request::either;
@@ -86,13 +86,13 @@ impl<'a, SV: ProxyHttp> Hooked<'a, SV> {
             → IsSome (head_of inner.session.reading) → p.put ≡ [] → p.batched ≡ []
             → of_head ≡ is_head_request s.head.method
             → PastBy s (F.state client) (F.ahead client) inner inner.session p
-            → IsHooked (InnerPast result.side.stopped s (F.state client) (F.ahead client)
+            → HookedPast (InnerPast result.side.stopped s (F.state client) (F.ahead client)
             result.side.inner)
             (IsAllowed (SV.allows result.app.now) (SomeAllow SV.Modules.allows))
             s.head.method (seen_by result.side.session.seen result.side.inner.session)
             (SV.mark_of result.app.now result.side.ctx) result.side.first result.side.of_head
             result.side.at_first result.side.ended false result.side.refused
-            result.side.stood result.side.stopped p }
+            result.side.stood result.side.stopped result.side.told result.side.inner.told p }
         ensures counted { result.side.counted ≡ length session.seen.log }
         ensures stood { result.side.stood ≡ true }
     {
@@ -198,12 +198,12 @@ impl<'a, SV: ProxyHttp, F: Front> Down<F> for Hooked<'a, SV> {
     ghost state = { λ f. state_over (state_of_side f.side.inner) f.side.ended f.side.stopped
         f.side.was f.side.told f.side.session.seen.log };
 
-    ghost past = { λ f client s p. IsHooked
+    ghost past = { λ f client s p. HookedPast
         (InnerPast f.side.stopped s (F.state client) (F.ahead client) f.side.inner)
         (IsAllowed (SV.allows f.app.now) (SomeAllow SV.Modules.allows)) s.head.method
         (seen_by f.side.session.seen f.side.inner.session) (SV.mark_of f.app.now f.side.ctx)
         f.side.first f.side.of_head f.side.at_first f.side.ended false f.side.refused f.side.stood
-        f.side.stopped p };
+        f.side.stopped f.side.told f.side.inner.told p };
 
     ghost blames = { λ f client s p e. BlamesOver
         (InnerPast f.side.stopped s (F.state client) (F.ahead client) f.side.inner)
