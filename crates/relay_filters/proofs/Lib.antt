@@ -9,4 +9,5 @@ mod SideLemmas
 mod MoveLemmas
 mod LentSide
 mod StateLemmas
+mod SegmentLemmas
 mod QuietLemmas

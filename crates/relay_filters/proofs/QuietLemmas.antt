@@ -1,5 +1,5 @@
 -- What a side tells of errors, beside what its inner side told of them.
-use Rattle.std.proofs.Common.{◌≡◌, ℕ, Bool, List, Option, Some, None, arith, refl, sym, ap, subst, ◌∙◌, inl, inr}
+use Rattle.std.proofs.Common.{◌≡◌, ℕ, Bool, List, drop, Option, Some, None, arith, refl, sym, ap, subst, ◌∙◌, inl, inr}
 use Rattle.relay_tasks.specs.declared.error.Error.{Error}
 use Rattle.relay_tasks.specs.declared.error.ErrorSource.TheVariants.{Downstream}
 use Rattle.relay_tasks.specs.declared.error.Fail.{Fail}
@@ -20,6 +20,7 @@ use Rattle.relay_modules.specs.declared.seen.Seen.{Seen}
 use Rattle.relay_hooks.specs.Standing.{Standing}
 use Rattle.relay_tasks.specs.declared.log.LogEntry.{LogEntry}
 use Rattle.relay_filters.specs.Hooked.{HookedPast, IsHooked, IsQuiet, state_of_side}
+use Rattle.relay_filters.specs.Segments.{InSegments}
 use Rattle.relay_filters.proofs.LentSide.{Swapped, goes_so, refused_so}
 
 -- ---- counts
@@ -119,22 +120,23 @@ told_given side given lent piece gives rest =
 
 -- ---- the past of the side
 
--- what passed goes on, and so does what is said of errors
+-- what passed goes on, and so does what is said of errors and calls
 pub past_goes : {inner : DownPast → Type 0} {allows : Standing → LogEntry → Type 0}
     {method : List ℕ} {seen : Seen} {mark first : ℕ} {oh a ended u rf stood : Bool}
     {st : Option Fail} {told inner_told : Told} {blames : DownPast → Error → Type 0}
     {put batched closing : List HttpTask} {error : Option Error}
-    → IsQuiet st told inner_told
+    → IsQuiet st told inner_told → InSegments oh st (drop first seen.log)
     → DownGoes (IsHooked inner allows method seen mark first oh a ended u rf stood st) blames put
     batched closing error
     → DownGoes
     (HookedPast inner allows method seen mark first oh a ended u rf stood st told inner_told) blames
     put batched closing error
 past_goes {inner} {allows} {method} {seen} {mark} {first} {oh} {a} {ended} {u} {rf} {stood} {st}
-    {told} {inner_told} {blames} {put} {batched} {closing} {error} quiet g =
+    {told} {inner_told} {blames} {put} {batched} {closing} {error} quiet calls g =
     goes_so (IsHooked inner allows method seen mark first oh a ended u rf stood st)
     (HookedPast inner allows method seen mark first oh a ended u rf stood st told inner_told) blames
-    put batched closing error (λ q stands. record { passed = stands; quiet = quiet }) g
+    put batched closing error
+    (λ q stands. record { passed = stands; quiet = quiet; calls = calls }) g
 
 -- the same behind a batch that was refused
 pub past_refused : {inner : DownPast → Type 0} {allows : Standing → LogEntry → Type 0}
@@ -142,14 +144,14 @@ pub past_refused : {inner : DownPast → Type 0} {allows : Standing → LogEntry
     {st : Option Fail} {told inner_told : Told}
     {refuses : DownPast → List HttpTask → Error → Type 0} {p : DownPast} {tasks : List HttpTask}
     {why : Fail}
-    → IsQuiet st told inner_told
+    → IsQuiet st told inner_told → InSegments oh st (drop first seen.log)
     → BatchRefused (IsHooked inner allows method seen mark first oh a ended u rf stood st) refuses p
     tasks why
     → BatchRefused
     (HookedPast inner allows method seen mark first oh a ended u rf stood st told inner_told)
     refuses p tasks why
 past_refused {inner} {allows} {method} {seen} {mark} {first} {oh} {a} {ended} {u} {rf} {stood} {st}
-    {told} {inner_told} {refuses} {p} {tasks} {why} quiet g =
+    {told} {inner_told} {refuses} {p} {tasks} {why} quiet calls g =
     refused_so (IsHooked inner allows method seen mark first oh a ended u rf stood st)
     (HookedPast inner allows method seen mark first oh a ended u rf stood st told inner_told)
-    refuses p tasks why (λ q stands. record { passed = stands; quiet = quiet }) g
+    refuses p tasks why (λ q stands. record { passed = stands; quiet = quiet; calls = calls }) g

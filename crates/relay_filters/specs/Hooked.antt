@@ -1,6 +1,6 @@
 -- What passed through a side behind filters: what its inner side put and was given, and by the log
 -- what the filters let pass and made of it.
-use Rattle.std.specs.Prelude.{◌≡◌, ℕ, Bool, true, false, ◌||◌, if◌then◌else◌, ◌⊎◌, List, [], ◌∷◌, ◌++◌, length, Option, Some, None, is_some, option_map, unwrap_or, IsSome}
+use Rattle.std.specs.Prelude.{◌≡◌, ℕ, Bool, true, false, ◌||◌, if◌then◌else◌, ◌⊎◌, List, [], ◌∷◌, ◌++◌, drop, length, Option, Some, None, is_some, option_map, unwrap_or, IsSome}
 use Rattle.relay_tasks.specs.declared.error.Error.{Error}
 use Rattle.relay_tasks.specs.declared.error.Fail.{Fail}
 use Rattle.relay_tasks.specs.declared.error.Fail.TheVariants as fail
@@ -24,6 +24,7 @@ use Rattle.relay_sides.specs.declared.client_side.ClientSide.{ClientSide}
 use Rattle.relay_filters.specs.Chain.{Refuses}
 use Rattle.relay_filters.specs.Request.{PassesRequest}
 use Rattle.relay_filters.specs.Response.{BatchStops, MakesOf, WasMade}
+use Rattle.relay_filters.specs.Segments.{InSegments}
 use Rattle.relay_filters.specs.declared.unhooked.Shown.{Shown}
 
 -- ---- the state
@@ -150,8 +151,8 @@ pub record IsHooked (inner : DownPast → Type 0) (allows : Standing → LogEntr
   pub told : (e : Error) → stopped ≡ Some (fail.Error e) → Refuses of_head e own
 
 -- what the errors that the side told say of those of its inner one: where it told none, the inner
--- one told none, and no filter stopped the side for one; where it told one alone, the inner one told
--- none, or that one alone, and no filter stopped the side for one
+-- one told none, and no filter stopped the side for one; where it told one alone, the inner one
+-- told none, or that one alone, and no filter stopped the side for one
 pub record IsQuiet (stopped : Option Fail) (told inner_told : Told) : Type 0 where
   pub none : told.errors ≡ 0
       → (inner_told.errors ≡ 0) × (stops_for_error stopped ≡ false)
@@ -159,7 +160,8 @@ pub record IsQuiet (stopped : Option Fail) (told inner_told : Told) : Type 0 whe
       ⊎ ((inner_told.errors ≡ 1) × (inner_told.last ≡ told.last)
       × (stops_for_error stopped ≡ false))
 
--- the past of a side: what passed, and what its errors say of it
+-- the past of a side: what passed, what its errors say of those of its inner one, and its calls,
+-- which stand in the log behind so many, in order
 pub record HookedPast (inner : DownPast → Type 0) (allows : Standing → LogEntry → Type 0)
     (method : List ℕ) (seen : Seen) (mark first : ℕ)
     (of_head at_first ended upgraded refused stood : Bool) (stopped : Option Fail)
@@ -167,6 +169,7 @@ pub record HookedPast (inner : DownPast → Type 0) (allows : Standing → LogEn
   pub passed : IsHooked inner allows method seen mark first of_head at_first ended upgraded refused
       stood stopped p
   pub quiet : IsQuiet stopped told inner_told
+  pub calls : InSegments of_head stopped (drop first seen.log)
 
 -- the side answers for an error: its inner one does, or it stopped for it
 abbrev pub BlamesOver : (DownPast → Type 0) → (DownPast → Error → Type 0) → Option Fail → DownPast

@@ -118,8 +118,8 @@ module _ {L : Type 0} (state : L → LinkState) (start_at : L → LinkStart)
         let c = so_far.down.passed.holds.passed.client in
         record {
           why = why;
-          answers = answers_own s (inside p so_far.down.passed.came so_far.down.passed.queued) link ahead
-              b.side.session c;
+          answers = answers_own s (inside p so_far.down.passed.came so_far.down.passed.queued)
+              link ahead b.side.session c;
           holds = holds;
           broken = c.broken;
         }
@@ -134,7 +134,8 @@ module _ {L : Type 0} (state : L → LinkState) (start_at : L → LinkStart)
 
     -- the order, by the first refusal
     abbrev in_order : (refused : Option Error)
-        → first_refusal (request_of s.head) place.NoHead (so_far.down.passed.queued ++ p.closing) ≡ refused
+        → first_refusal (request_of s.head) place.NoHead
+        (so_far.down.passed.queued ++ p.closing) ≡ refused
         → IsInOrderWith refused (filtering b) s (passed_by p q) (state up.client.link).ended
     in_order refused passes =
         order_by state start_at allows link ahead s b up duplex p q so_far half refused passes
@@ -204,10 +205,10 @@ module _ {L : Type 0} (state : L → LinkState) (start_at : L → LinkStart)
         fails_as
         (FailsFor.by_filter (in_order None passes) is
         (subst (λ (es : List LogEntry). Refuses (is_head_request s.head.method) e es)
-        (own_calls b.first so_far.down.passed.before so_far.down.passed.own b.seen.log so_far.down.passed.parts
-        so_far.down.passed.began)
-        (subst (λ (of_head : Bool). Refuses of_head e so_far.down.passed.own) so_far.down.passed.is_of_head
-        (so_far.down.passed.told e is)))) held
+        (own_calls b.first so_far.down.passed.before so_far.down.passed.own b.seen.log
+        so_far.down.passed.parts so_far.down.passed.began)
+        (subst (λ (of_head : Bool). Refuses of_head e so_far.down.passed.own)
+        so_far.down.passed.is_of_head (so_far.down.passed.told e is)))) held
 
     -- the peer's side answers for the error
     fails_given : PeerSideBlames state start_at s up q e → Fails
@@ -277,8 +278,8 @@ module _ {L : Type 0} (state : L → LinkState) (start_at : L → LinkStart)
             (ap (λ (l : List HttpTask). first_refusal (request_of s.head) place.NoHead l)
             (none_behind unasked queued) ∙ passes)) b.stand left made unasked
             (record { rest = rest; joined = append_assoc p.batched left rest ∙ sym read })
-            (subst (λ (of_head : Bool). WasMade of_head b.stand left made) so_far.down.passed.is_of_head
-            made_so)
+            (subst (λ (of_head : Bool). WasMade of_head b.stand left made)
+            so_far.down.passed.is_of_head made_so)
             (ap (λ (l : List HttpTask).
             first_refusal (request_of s.head) place.NoHead (l ++ made)) is_half
             ∙ first_refusal-append (request_of s.head) place.NoHead queued made
@@ -333,7 +334,8 @@ module _ {L : Type 0} (state : L → LinkState) (start_at : L → LinkStart)
     fails_unended came queued holds cannot (inr done) =
         absurd (over_ends (request_of s.head)
         (wire (request_of s.head) place.NoHead (so_far.down.passed.queued ++ p.closing)).place e
-        (stays_over (request_of s.head) place.NoHead so_far.down.passed.queued p.closing (half.over done))
+        (stays_over (request_of s.head) place.NoHead so_far.down.passed.queued p.closing
+        (half.over done))
         (ap (λ (at : Place). refusal (request_of s.head) at task.Done)
         (sym (same_place came queued holds)) ∙ cannot.refused))
     fails_unended came queued holds cannot (inl ends) =
@@ -351,14 +353,17 @@ module _ {L : Type 0} (state : L → LinkState) (start_at : L → LinkStart)
         ]
       where
         -- where none of them is refused there is no final head: else the response is over
-        no_head : AllPass s (so_far.down.passed.queued ++ p.closing) → list_any is_end p.batched ≡ true
+        no_head : AllPass s (so_far.down.passed.queued ++ p.closing)
+            → list_any is_end p.batched ≡ true
             → refusal (request_of s.head)
             (wire (request_of s.head) place.NoHead (so_far.down.passed.queued ++ p.closing)).place
             task.Done ≡ Some e
-            → has_head (wire (request_of s.head) place.NoHead so_far.down.passed.queued).place ≡ false
+            → has_head (wire (request_of s.head) place.NoHead so_far.down.passed.queued).place
+            ≡ false
         no_head pass ends refused = elim (decide _) [
           | inl has ↦ absurd (over_ends (request_of s.head)
-              (wire (request_of s.head) place.NoHead (so_far.down.passed.queued ++ p.closing)).place e
+              (wire (request_of s.head) place.NoHead
+              (so_far.down.passed.queued ++ p.closing)).place e
               (over_made state start_at allows link ahead s b up duplex p q so_far pass ends has)
               refused)
           | inr none ↦ none

@@ -139,9 +139,10 @@ module _ {L : Type 0} (state : L → LinkState) (start_at : L → LinkStart)
     half = hooked_half allows link ahead s b p so_far.down
 
     -- what was written
-    abbrev text : IsWritten b.side.session.writing (so_far.down.passed.queued ++ p.closing) p.written
-    text = text_written s (inside p so_far.down.passed.came so_far.down.passed.queued) link ahead b.side.session
-        so_far.down.passed.holds.passed.client
+    abbrev text : IsWritten b.side.session.writing (so_far.down.passed.queued ++ p.closing)
+        p.written
+    text = text_written s (inside p so_far.down.passed.came so_far.down.passed.queued) link ahead
+        b.side.session so_far.down.passed.holds.passed.client
 
     -- the tasks that passed the filters are a front of those that were read
     front : IsFrontOf p.batched q.read
@@ -160,8 +161,8 @@ module _ {L : Type 0} (state : L → LinkState) (start_at : L → LinkStart)
         (so_far.down.passed.queued ++ p.closing)).text ≡ (order.text_of in_order).text
     text_own =
         ap (λ (r : Request). (wire r place.NoHead (so_far.down.passed.queued ++ p.closing)).text)
-        (answers_own s (inside p so_far.down.passed.came so_far.down.passed.queued) link ahead b.side.session
-        so_far.down.passed.holds.passed.client)
+        (answers_own s (inside p so_far.down.passed.came so_far.down.passed.queued) link ahead
+        b.side.session so_far.down.passed.holds.passed.client)
 
     -- nothing waits, and no fault is kept: all was written
     written_all :
@@ -407,7 +408,8 @@ module _ {L : Type 0} (state : L → LinkState) (start_at : L → LinkStart)
         ap (list_any is_end)
         (r.left ∙ ap (λ (a : Bool). passed a (requests_in so_far.down.passed.own)) fresh)
         ∙ passed_ends (requests_in so_far.down.passed.own)
-        ∙ sym (r.is_ended ∙ ap (λ (a : Bool). ended_by a (requests_in so_far.down.passed.own)) fresh)
+        ∙ sym (r.is_ended
+        ∙ ap (λ (a : Bool). ended_by a (requests_in so_far.down.passed.own)) fresh)
         ∙ ended
 
     -- a link that may serve another request is kept

@@ -155,6 +155,7 @@ module _
       read = body_same body_piece ∙ one_body c.body (is_body_done session.reading)
           ∙ sym (body_same came ∙ c.joined) ∙ r.read;
       all = r.all;
+      told = λ t. one_ends c.body (is_body_done session.reading) ∙ c.ended (r.told t);
       left = r.left;
       is_ended = r.is_ended;
     }
@@ -187,14 +188,15 @@ module _
           pieces = body_piece s p h.passed.came h.passed.queued link ahead session c;
           are_pieces =
               pieces_said s
-              (inside p (body_piece s p h.passed.came h.passed.queued link ahead session c) h.passed.queued) link ahead
-              session (with_one s p h.passed.came h.passed.queued link ahead session c)
+              (inside p (body_piece s p h.passed.came h.passed.queued link ahead session c)
+              h.passed.queued) link ahead session (with_one s p h.passed.came h.passed.queued link ahead session c)
               (one_last c.body (is_body_done session.reading));
           passed =
               subst (λ (es : List LogEntry).
               PassesRequest b.at_first b.ended (requests_in es) (b.stopped ≡ None)
               (body_piece s p h.passed.came h.passed.queued link ahead session c) p.put)
-              (own_calls b.first h.passed.before h.passed.own b.seen.log h.passed.parts h.passed.began)
+              (own_calls b.first h.passed.before h.passed.own b.seen.log h.passed.parts
+              h.passed.began)
               (passes_one s p h.passed.came h.passed.queued link ahead session c b.at_first b.ended
               (requests_in h.passed.own) (b.stopped ≡ None) p.put (h.passed.request refl));
           queued = queued;
@@ -215,7 +217,9 @@ module _
 
     -- the half, by the tasks that it names
     abbrev pub hooked_half : HookedHalf (filtering b) s link b.ended b.side.done p
-    hooked_half = half_with h.passed.came h.passed.queued h.passed.holds h.passed.before h.passed.own h.passed.parts h.passed.began h.passed.response
+    hooked_half =
+        half_with h.passed.came h.passed.queued h.passed.holds h.passed.before h.passed.own
+        h.passed.parts h.passed.began h.passed.response
 
 -- ---- the upstream's half
 

@@ -6,3 +6,4 @@ pub mod PassedLemmas
 pub mod FinishLemmas
 pub mod FailLemmas
 pub mod NeutralLemmas
+pub mod StationLemmas

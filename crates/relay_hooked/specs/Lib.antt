@@ -4,3 +4,4 @@ pub mod Attempt
 pub mod Sides
 pub mod Laws
 pub mod Neutral
+pub mod Stations

@@ -9,7 +9,7 @@ pub returns-in-Ok-clause-goes : goal.returns-in-Ok-clause-goes
 returns-in-Ok-clause-goes g c = λ client s p h.
     past_goes
     (quiet_by _ _ c.args.self.now.side.told _ c.finish.new.self.told refl
-    (ap (λ (x : DownState). x.told) c.in-Ok.ensures.ends.exact) h.quiet)
+    (ap (λ (x : DownState). x.told) c.in-Ok.ensures.ends.exact) h.quiet) h.calls
     (client_goes s _ _ _ _ c.args.self.now.side.inner _ _ _ _ c.args.self.now.side.session.seen _ _
     _ _ _ _ _ c.args.self.now.side.stopped p _ p.put _ p.batched _ _ _ h.passed
     (sym c.is_lost.ensures ∙ c.if-is_lost.false) c.in-Ok.ensures.head refl refl
@@ -22,7 +22,7 @@ returns-in-Err-clause-goes g c = λ client s p h.
     (quiet_by _ _ c.failed-self-in-Err.result _ c.finish.new.self.told c.failed-self-in-Err.ensures
     (ap (λ (x : DownState). x.told) c.in-Err.ensures.ends)
     (quiet_failed c.in-Err.why c.args.self.now.side.stopped c.args.self.now.side.told
-    c.args.self.now.side.inner.told h.quiet))
+    c.args.self.now.side.inner.told h.quiet)) h.calls
     (client_goes s _ _ _ _ c.args.self.now.side.inner _ _ _ _ c.args.self.now.side.session.seen _ _
     _ _ _ _ _ c.args.self.now.side.stopped p _ p.put _ p.batched _ _ _ h.passed
     (sym c.is_lost.ensures ∙ c.if-is_lost.false) c.in-Err.ensures.head refl refl

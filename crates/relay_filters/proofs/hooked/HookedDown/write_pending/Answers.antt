@@ -10,7 +10,7 @@ returns-clause-goes g c = λ s p h.
     (quiet_by _ _ c.written-self.result _ _ c.written-self.ensures
     (told_written _ _ c.write_pending-put.result c.write_pending-put.ensures.writes)
     (quiet_written c.write_pending-put.result c.args.self.now.side.stopped
-    c.args.self.now.side.told c.args.self.now.side.inner.told h.quiet))
+    c.args.self.now.side.told c.args.self.now.side.inner.told h.quiet)) h.calls
     (client_goes s _ _ _ _ c.args.self.now.side.inner _ _ _ _ c.args.self.now.side.session.seen _ _
     _ _ _ _ _ c.args.self.now.side.stopped p _ p.put _ p.batched _ [] _ h.passed
     (sym c.is_lost.ensures ∙ c.if-is_lost.false)
