@@ -175,7 +175,7 @@ lent_past s link ahead side side' q rest same h =
     side.broken same h)
 
 -- where memory was wanted, what passed is that of the session before
-lost_past : (s : Origin) (link : LinkState) (ahead : List ℕ) (side side' : ClientSide)
+pub lost_past : (s : Origin) (link : LinkState) (ahead : List ℕ) (side side' : ClientSide)
     (q : DownPast) → Swapped side side' → PastBy s link ahead side side.session q
     → InnerPast (Some fail.OutOfMemory) s link ahead side' q
 lost_past s link ahead side side' q rest h =

@@ -11,3 +11,4 @@ mod LentSide
 mod StateLemmas
 mod SegmentLemmas
 mod QuietLemmas
+mod AgainLemmas

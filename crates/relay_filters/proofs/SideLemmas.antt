@@ -1,5 +1,5 @@
 -- A side behind filters: how each answer of the inner side goes on, with the calls that it led to.
-use Rattle.std.proofs.Common.{◌≡◌, ℕ, ◌<◌, Bool, true, false, ◌||◌, ◌&&◌, List, [], ◌∷◌, ◌++◌, length, Option, Some, None, is_some, Ok, Err, arith, length-append, refl, sym, ap, subst, ◌∙◌, append-nil, append_assoc, inl, inr, IsTrue, IsSome, option_map, unwrap_or}
+use Rattle.std.proofs.Common.{◌≡◌, ℕ, ◌<◌, Bool, true, false, ◌||◌, ◌&&◌, List, [], ◌∷◌, ◌++◌, length, Option, Some, None, is_some, Ok, Err, arith, length-append, refl, sym, ap, subst, ◌∙◌, append-nil, append_assoc, inl, inr, true≢false, IsTrue, IsSome, option_map, unwrap_or}
 use Rattle.std.specs.List.{list_any}
 use Rattle.relay_tasks.specs.declared.error.Error.{Error}
 use Rattle.relay_tasks.specs.declared.error.Fail.{Fail}
@@ -1058,8 +1058,12 @@ longer log log' e is one =
 
 -- ---- the beginning
 
+-- a side that has not stopped stopped for no error
+pub none_error : {A : Type 0} (e : Error) → None ≡ Some (fail.Error e) → A
+none_error e is = cc
+
 -- before the first piece nothing passed
-pub begins : (holds : DownPast → Type 0) (allows : Standing → LogEntry → Type 0)
+abbrev pub begins : (holds : DownPast → Type 0) (allows : Standing → LogEntry → Type 0)
     (method : List ℕ) (seen : Seen) (mark first : ℕ) (oh ended u : Bool) (p : DownPast)
     → first ≡ length seen.log → IsSome (head_of seen.downstream.reading) → p.put ≡ []
     → p.batched ≡ [] → oh ≡ is_head_request method → holds p
@@ -1084,7 +1088,7 @@ begins holds allows method seen mark first oh ended u p len head none none' own 
     rest = [];
     read = refl;
     all = λ so. refl;
-    told = λ t. cc;
+    told = λ t. absurd (true≢false (sym t));
     left = none;
     is_ended = refl;
   };
@@ -1095,7 +1099,7 @@ begins holds allows method seen mark first oh ended u p len head none none' own 
     by_modules = nothing (PassedModules true) [] refl;
   };
   head = λ on. head;
-  told = λ e is. cc;
+  told = λ e is. none_error e is;
 }
   where
     nothing : (chain : HttpTask → List LogEntry → HttpTask → Type 0) (xs : List HttpTask)

@@ -1,6 +1,6 @@
 -- What passed through a side behind filters: what its inner side put and was given, and by the log
 -- what the filters let pass and made of it.
-use Rattle.std.specs.Prelude.{◌≡◌, ℕ, Bool, true, false, ◌||◌, if◌then◌else◌, ◌⊎◌, List, [], ◌∷◌, ◌++◌, drop, length, Option, Some, None, is_some, option_map, unwrap_or, IsSome}
+use Rattle.std.specs.Prelude.{◌≡◌, ℕ, Bool, true, false, ◌||◌, if◌then◌else◌, ◌⊎◌, List, [], ◌∷◌, ◌++◌, drop, length, Option, Some, None, is_some, option_map, unwrap_or, IsSome, Result, Ok, Err}
 use Rattle.relay_tasks.specs.declared.error.Error.{Error}
 use Rattle.relay_tasks.specs.declared.error.Fail.{Fail}
 use Rattle.relay_tasks.specs.declared.error.Fail.TheVariants as fail
@@ -13,6 +13,8 @@ use Rattle.relay_session.specs.Reading.{head_of}
 use Rattle.relay_session.specs.declared.session.HttpSession.{HttpSession}
 use Rattle.relay_core.specs.Down.{DownState}
 use Rattle.relay_core.specs.Past.{DownPast, Origin}
+use Rattle.relay_core.specs.Piece.{put_of}
+use Rattle.relay_core.specs.declared.piece.Piece.{Piece}
 use Rattle.relay_core.specs.declared.told.Told.{Told}
 use Rattle.relay_modules.specs.declared.seen.Seen.{Seen}
 use Rattle.relay_hooks.specs.Standing.{Standing, standing}
@@ -170,6 +172,11 @@ pub record HookedPast (inner : DownPast → Type 0) (allows : Standing → LogEn
       stood stopped p
   pub quiet : IsQuiet stopped told inner_told
   pub calls : InSegments of_head stopped (drop first seen.log)
+
+-- what is put of a piece that was put again, by what came of it: what passed, or nothing
+abbrev pub put_by : Result Piece Fail → List HttpTask
+put_by (Ok made) = put_of false made
+put_by (Err why) = []
 
 -- the side answers for an error: its inner one does, or it stopped for it
 abbrev pub BlamesOver : (DownPast → Type 0) → (DownPast → Error → Type 0) → Option Fail → DownPast
