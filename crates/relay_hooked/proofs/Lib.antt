@@ -7,3 +7,6 @@ pub mod FinishLemmas
 pub mod FailLemmas
 pub mod NeutralLemmas
 pub mod StationLemmas
+pub mod SideLemmas
+pub mod TurnLemmas
+pub mod AppLemmas

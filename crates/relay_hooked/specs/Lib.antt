@@ -5,3 +5,5 @@ pub mod Sides
 pub mod Laws
 pub mod Neutral
 pub mod Stations
+pub mod Head
+pub mod Exchange

@@ -12,7 +12,7 @@ returns-in-Ok-clause-goes g c = λ client s p h.
     (ap (λ (x : DownState). x.told) c.in-Ok.ensures.ends.exact) h.quiet) h.calls
     (client_goes s _ _ _ _ c.args.self.now.side.inner _ _ _ _ c.args.self.now.side.session.seen _ _
     _ _ _ _ _ c.args.self.now.side.stopped p _ p.put _ p.batched _ _ _ h.passed
-    (sym c.is_lost.ensures ∙ c.if-is_lost.false) c.in-Ok.ensures.head refl refl
+    (sym c.is_lost.ensures ∙ c.if-is_lost.false) c.in-Ok.ensures.kept refl refl
     refl refl refl (c.in-Ok.ensures.goes client s _ (past_of _ _ _ _
     (sym c.is_lost.ensures ∙ c.if-is_lost.false) h.passed.holds)))
 
@@ -25,6 +25,6 @@ returns-in-Err-clause-goes g c = λ client s p h.
     c.args.self.now.side.inner.told h.quiet)) h.calls
     (client_goes s _ _ _ _ c.args.self.now.side.inner _ _ _ _ c.args.self.now.side.session.seen _ _
     _ _ _ _ _ c.args.self.now.side.stopped p _ p.put _ p.batched _ _ _ h.passed
-    (sym c.is_lost.ensures ∙ c.if-is_lost.false) c.in-Err.ensures.head refl refl
+    (sym c.is_lost.ensures ∙ c.if-is_lost.false) c.in-Err.ensures.kept refl refl
     refl refl refl (c.in-Err.ensures.goes client s _ (past_of _ _ _ _
     (sym c.is_lost.ensures ∙ c.if-is_lost.false) h.passed.holds)))
