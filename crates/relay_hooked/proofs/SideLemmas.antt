@@ -14,7 +14,6 @@ use Rattle.std.specs.Prelude.{if◌then◌else◌, is_some, length}
 use Rattle.relay_tasks.specs.declared.error.Error.{Error}
 use Rattle.relay_tasks.specs.declared.error.Fail.{Fail}
 use Rattle.relay_tasks.specs.declared.log.LogEntry.{LogEntry}
-use Rattle.relay_tasks.specs.declared.task.HttpTask.{HttpTask}
 use Rattle.relay_links.specs.Link.{LinkState, LinkStart}
 use Rattle.relay_peer.specs.Peer as peer
 use Rattle.relay_peer.specs.declared.peer_side.PeerSide.{PeerSide}
@@ -31,7 +30,6 @@ use Rattle.relay_core.specs.declared.told.Told.{Told}
 use Rattle.relay_hooks.specs.Standing.{Standing}
 use Rattle.relay_calls.specs.Log.{requests_in}
 use Rattle.relay_sides.specs.Client.{AllPass, CannotEnd, ClientBlames, ClientRefuses}
-use Rattle.relay_sides.specs.declared.client_side.ClientSide.{ClientSide}
 use Rattle.relay_filters.specs.Hooked.{BlamesOver, HookedPast, InnerPast, PastBy, PastOf, RefusesOver, is_lost, seen_by, shown_done, state_of_side}
 use Rattle.relay_filters.specs.declared.unhooked.Unhooked.{Unhooked}
 use Rattle.relay_attempt.specs.Attempt.{IsAttempt}

@@ -2,7 +2,7 @@
 --
 --   under_way   an exchange that is under way between both sides is, over all that passed
 --   turned      what a turn between both sides is, over all that passed
-use Rattle.std.proofs.Common.{◌≡◌, ℕ, Bool, true, false, ◌⊎◌, List, Option, Some, None, inl, inr, refl, sym, ap, subst, ◌∙◌}
+use Rattle.std.proofs.Common.{◌≡◌, ℕ, Bool, true, false, ◌⊎◌, List, Some, inl, inr, refl, sym, ap, subst, ◌∙◌}
 use Rattle.std.specs.Prelude.{◌&&◌, is_some}
 use Rattle.relay_tasks.specs.declared.error.Error.{Error}
 use Rattle.relay_tasks.specs.declared.error.Fail.TheVariants as fail
@@ -11,7 +11,7 @@ use Rattle.relay_links.specs.Count.{up}
 use Rattle.relay_links.specs.Link.{LinkState, LinkStart}
 use Rattle.relay_peer.specs.H1Client.{may_keep_client}
 use Rattle.relay_session.specs.Reading.{is_body_done}
-use Rattle.relay_core.specs.Moves.{Finishes, HasReason}
+use Rattle.relay_core.specs.Moves.{Finishes}
 use Rattle.relay_core.specs.Past.{Origin, DownPast, UpPast}
 use Rattle.relay_core.specs.Table.{State}
 use Rattle.relay_core.specs.declared.step.Step.{Step}
@@ -26,10 +26,10 @@ use Rattle.relay_sides.specs.Client.{CannotEnd, ClientBlames, ClientRefuses}
 use Rattle.relay_filters.specs.Hooked.{BlamesOver, InnerPast, RefusesOver, inside, is_lost}
 use Rattle.relay_attempt.proofs.OrderLemmas.{answers_own}
 use Rattle.relay_hooked.specs.Exchange.{ComesTo, IsFinished, IsOverEarly, IsUnderWay, SideHolds, Turns}
-use Rattle.relay_hooked.specs.Head.{behind, core_of, link_of, may_keep, side_state}
+use Rattle.relay_hooked.specs.Head.{behind, core_of, link_of, may_keep}
 use Rattle.relay_hooked.specs.Laws.{GoesSoFar, passed_by}
-use Rattle.relay_hooked.specs.Order.{EndsEarly, IsInOrder, IsRelayed, Keeps, Leaves}
-use Rattle.relay_hooked.specs.Sides.{PeerHolds, PeerSideBlames, TellsAlone, filtering, hooked_core, keeps_link}
+use Rattle.relay_hooked.specs.Order.{IsInOrder, Keeps, Leaves}
+use Rattle.relay_hooked.specs.Sides.{PeerHolds, PeerSideBlames, TellsAlone, filtering, keeps_link}
 use Rattle.relay_hooked.specs.declared.exchange.HookedExchange.{HookedExchange}
 use Rattle.relay_hooked.proofs.FailLemmas.{fails_here}
 use Rattle.relay_hooked.proofs.FinishLemmas.{finishes_so}

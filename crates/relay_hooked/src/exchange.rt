@@ -56,8 +56,8 @@ pub struct Unbegun<M, C, L> {
 /// handed out. The calls of the application enter the log of `session`, in whose own client's
 /// place a stand-in is; `ctx` is its context. `head` is the head that is sent, which may differ
 /// from the client's in all: the request is framed as it says, and the response towards the
-/// client as the client's says. What the client's session has kept of the body is put before
-/// any turn, as one piece, past the filter, and with it the end of a body that has ended.
+/// client as the client's says. What the client's session has kept of the body is put before any
+/// turn, as one piece that passes no filter, and with it the end of a body that has ended.
 ///
 /// So it is under way where nothing is put so: the body has not ended, and none of it was read.
 ///

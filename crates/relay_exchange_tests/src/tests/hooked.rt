@@ -48,13 +48,15 @@ fn begun<SV: ProxyHttp>(
     let ctx = app.new_ctx();
     match begin::<SV, ScriptLink, Client>(app, alloc, session, ctx, client, peer, head) {
         Ok(exchange) => Ok(Some(exchange)),
-        Err(Unbegun {
-            session: _session,
-            ctx: _ctx,
-            client: _,
-            link: _,
-            why: _,
-        }) => Ok(None),
+        Err(
+            Unbegun {
+                session: _session,
+                ctx: _ctx,
+                client: _,
+                link: _,
+                why: _,
+            },
+        ) => Ok(None),
     }
 }
 

@@ -1,6 +1,6 @@
 -- An exchange begins once its head was queued, with nothing kept of the body; it is not begun where
 -- the head is refused.
-use Rattle.std.proofs.Common.{◌≡◌, ℕ, Bool, [], Option, Some, refl, sym, ap, subst, ◌∙◌}
+use Rattle.std.proofs.Common.{◌≡◌, [], Option, Some, refl, sym, ap, subst, ◌∙◌}
 use Rattle.relay_tasks.specs.declared.error.Fail.{Fail}
 use Rattle.relay_tasks.specs.declared.log.LogEntry.{LogEntry}
 use Rattle.relay_links.specs.Link.{IsHandedOut}

@@ -1,5 +1,5 @@
 -- A turn between both sides is one over all that passed, and the application is that of the side.
-use Rattle.std.proofs.Common.{◌≡◌, ℕ, refl, ap, ◌∙◌}
+use Rattle.std.proofs.Common.{◌≡◌, refl, ap, ◌∙◌}
 use Rattle.relay_tasks.specs.declared.log.LogEntry.{LogEntry}
 use Rattle.relay_hooks.specs.Standing.{Standing}
 use Rattle.relay_calls.specs.Log.{IsAllowed}
