@@ -93,6 +93,16 @@ abbrev pub stood_head : Bool → HttpSession → Option RequestHead
 stood_head lost client =
     if lost || is_some (head_of client.reading) then Some (new_request [] []) else None
 
+-- what no call of the side changes: its application, how many calls stood in the log before its
+-- own, whether its request had ended before the first of them, and is a HEAD, and whether there is a
+-- head
+pub record Stays (A : Type 0) : Type 0 where
+  pub app : A
+  pub first : ℕ
+  pub at_first : Bool
+  pub of_head : Bool
+  pub head : Option RequestHead
+
 -- the past of the inner side over the client's session; where that is lost, over the one before
 abbrev pub PastOf : Bool → (HttpSession → DownPast → Type 0) → HttpSession → DownPast → Type 0
 PastOf false past client p = past client p

@@ -9,7 +9,7 @@ ghost use Rattle.relay_sides.specs.Filtered.{is_head_request};
 ghost use Rattle.relay_calls.specs.Log.{IsAllowed};
 ghost use Rattle.relay_filters.specs.Response.{SomeAllow};
 ghost use Rattle.relay_filters.specs.Delay.{delays_of};
-ghost use Rattle.relay_filters.specs.Hooked.{BlamesOver, InnerPast, IsHooked, PastBy, RefusesOver, failure_in_front, is_lost, refused_at_once, seen_by, state_of_side, state_over, stood_head};
+ghost use Rattle.relay_filters.specs.Hooked.{BlamesOver, InnerPast, IsHooked, PastBy, RefusesOver, Stays, failure_in_front, is_lost, refused_at_once, seen_by, state_of_side, state_over, stood_head};
 
 use crate::lent::{pass_piece, pass_tasks};
 use crate::request::either;
@@ -81,6 +81,9 @@ impl<'a, SV: ProxyHttp> Hooked<'a, SV> {
         ended: bool,
         of_head: bool,
     ) -> Hooked<'a, SV>
+        ensures app { result.app ≡ app.entry }
+        ensures session { result.side.session ≡ session }
+        ensures ctx { result.side.ctx ≡ ctx }
         ensures inner { result.side.inner ≡ inner }
         ensures begins { (client : F) (s : Origin) (p : DownPast)
             → IsSome (head_of inner.session.reading) → p.put ≡ [] → p.batched ≡ []
@@ -93,6 +96,12 @@ impl<'a, SV: ProxyHttp> Hooked<'a, SV> {
             (SV.mark_of result.app.now result.side.ctx) result.side.first result.side.of_head
             result.side.at_first result.side.ended false result.side.refused
             result.side.stood result.side.stopped p }
+        // Nothing has stopped it, and it has told what its inner side has.
+        ensures fresh { result.side.stopped ≡ None }
+        ensures told { result.side.told ≡ inner.told }
+        ensures first { result.side.first ≡ length session.seen.log }
+        ensures at_first { result.side.at_first ≡ ended }
+        ensures ended { result.side.ended ≡ ended }
         ensures counted { result.side.counted ≡ length session.seen.log }
         ensures stood { result.side.stood ≡ true }
     {
@@ -225,7 +234,15 @@ impl<'a, SV: ProxyHttp, F: Front> Down<F> for Hooked<'a, SV> {
     ghost start = { F.start };
 
     // Hooks may change the head, and not that there is one.
-    ghost head = { λ f. stood_head (is_lost f.side.stopped) f.side.inner.session };
+    ghost Kept = { Stays SV };
+
+    ghost kept = { λ f. record {
+      app = f.app.now;
+      first = f.side.first;
+      at_first = f.side.at_first;
+      of_head = f.side.of_head;
+      head = stood_head (is_lost f.side.stopped) f.side.inner.session;
+    } };
 
     fn may_read(&self) -> bool {
         !(Down::<F>::body_done(self) && self.side.inner.is_answered())

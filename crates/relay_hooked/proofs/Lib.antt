@@ -6,3 +6,6 @@ pub mod PassedLemmas
 pub mod FinishLemmas
 pub mod FailLemmas
 pub mod NeutralLemmas
+pub mod SideLemmas
+pub mod TurnLemmas
+pub mod AppLemmas

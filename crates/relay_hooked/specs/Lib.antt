@@ -4,3 +4,5 @@ pub mod Attempt
 pub mod Sides
 pub mod Laws
 pub mod Neutral
+pub mod Head
+pub mod Exchange

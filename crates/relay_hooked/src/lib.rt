@@ -1,12 +1,15 @@
-//! What passed in an exchange behind an application's filters, as one order: laws over the pasts of
-//! both sides alone, which no turn proves.
+//! One exchange behind an application's filters, held between its turns; and what passed in it, as
+//! one order: laws over the pasts of both sides.
 #![tactic(auto)]
+
+mod exchange;
 
 ghost use Rattle.relay_calls.specs.Log.{IsAllowed};
 ghost use Rattle.relay_filters.specs.Response.{SomeAllow};
 ghost use Rattle.relay_hooked.specs.Neutral.{IsAsWithout};
 ghost use Rattle.relay_hooked.specs.Laws.{IsAttemptSoFar, IsCaused, IsFinishing, IsInOrderSoFar, IsToldSoFar};
 
+pub use exchange::{HookedExchange, Unbegun, begin, turn};
 use relay_hooks::ProxyHttp;
 use relay_links::ByteLink;
 

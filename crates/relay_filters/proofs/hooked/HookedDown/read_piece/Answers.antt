@@ -16,7 +16,7 @@ returns-in-Ok-clause-goes g c =
     _ _ _
     c.args.self.now.side.session.seen _ _ _ _ _ _ _ c.args.self.now.side.stopped p c.in-Item.piece
     c.pass_piece.new.session.seen _ c.in-None.is h
-    c.in-Item.ensures.head c.in-Ok.ensures.rest
+    c.in-Item.ensures.kept c.in-Ok.ensures.rest
     (c.in-Item.ensures.goes s _ (past_of _ _ _ _ (not_lost _ c.in-None.is) h.holds)) c.in-Ok.made
     c.in-Ok.ensures.filters)
 
@@ -28,7 +28,7 @@ returns-in-Ok-clause-reads g c =
     c.args.self.now.side.stopped _ c.args.self.now.side.session.seen.log c.in-Item.piece
     c.in-Ok.made
     c.in-None.is c.in-Ok.ensures.rest
-    (rw c.in-Item.ensures.head
+    (rw c.in-Item.ensures.kept
     (subst (λ (x : HttpSession). IsSome (head_of x.reading)) c.session.ensures
     (c.has_head.ensures.0 c.if-not-has_head.false))) c.in-Item.ensures.reads
     c.in-Ok.ensures.filters c.in-Ok.ensures.called)
@@ -40,7 +40,7 @@ returns-in-Err-clause-goes g c = λ s p h.
     _ _ _
     c.args.self.now.side.session.seen _ _ _ _ _ _ _ c.args.self.now.side.stopped p c.in-Item.piece
     c.pass_piece.new.session.seen _ c.in-None.is h
-    c.in-Item.ensures.head c.in-Err.ensures.rest
+    c.in-Item.ensures.kept c.in-Err.ensures.rest
     (c.in-Item.ensures.goes s _ (past_of _ _ _ _ (not_lost _ c.in-None.is) h.holds)) c.in-Err.why
     c.in-Err.ensures.filters
 
@@ -50,7 +50,7 @@ returns-in-More-clause-goes g c = λ s p h.
     client_goes s _ _ _ _ c.args.self.now.side.inner c.read_piece.new.self _ _ _
     c.args.self.now.side.session.seen
     _ _ _ _ _ _ _ c.args.self.now.side.stopped p _ _ _ p.batched _ [] _ h (not_lost _ c.in-None.is)
-    c.in-More.ensures.head (append-nil h.came) (append-nil p.put) refl refl
+    c.in-More.ensures.kept (append-nil h.came) (append-nil p.put) refl refl
     (sym (append-nil p.closing))
     (c.in-More.ensures.goes s _ (past_of _ _ _ _ (not_lost _ c.in-None.is) h.holds))
 
@@ -64,7 +64,7 @@ returns-in-Waited-clause-goes g c = λ s p h.
     client_goes s _ _ _ _ c.args.self.now.side.inner c.read_piece.new.self _ _ _
     c.args.self.now.side.session.seen
     _ _ _ _ _ _ _ c.args.self.now.side.stopped p _ _ _ p.batched _ [] _ h (not_lost _ c.in-None.is)
-    c.in-Waited.ensures.head (append-nil h.came) (append-nil p.put) refl refl
+    c.in-Waited.ensures.kept (append-nil h.came) (append-nil p.put) refl refl
     (sym (append-nil p.closing))
     (c.in-Waited.ensures.goes s _ (past_of _ _ _ _ (not_lost _ c.in-None.is) h.holds))
 
@@ -74,6 +74,6 @@ returns-in-Failed-clause-goes g c = λ s p h.
     client_goes s _ _ _ _ c.args.self.now.side.inner c.read_piece.new.self _ _ _
     c.args.self.now.side.session.seen
     _ _ _ _ _ _ _ c.args.self.now.side.stopped p _ _ _ p.batched _ [] _ h (not_lost _ c.in-None.is)
-    c.in-Failed.ensures.head (append-nil h.came) (append-nil p.put) refl refl
+    c.in-Failed.ensures.kept (append-nil h.came) (append-nil p.put) refl refl
     (sym (append-nil p.closing))
     (c.in-Failed.ensures.goes s _ (past_of _ _ _ _ (not_lost _ c.in-None.is) h.holds))

@@ -47,7 +47,7 @@ returns-in-Ok-take_batch-clause-goes g c =
     c.args.self.now.side.session.seen
     _ _ _ _ _ _ _ _ _ c.args.self.now.side.stopped p c.args.tasks
     c.pass_tasks.new.session.seen _ (sym c.in-None.ensures) h c.in-Ok.ensures.rest
-    c.take_batch.new.self _ c.in-Ok.made c.in-Ok-take_batch.ensures.head c.in-Ok.ensures.filters
+    c.take_batch.new.self _ c.in-Ok.made c.in-Ok-take_batch.ensures.kept c.in-Ok.ensures.filters
     (c.in-Ok-take_batch.ensures.goes client s _
     (lent_holds s _ _ c.args.self.now.side.inner c.pass_tasks.new.inner _ _
     c.args.self.now.side.session.seen
@@ -73,7 +73,7 @@ returns-in-Err-take_batch-clause-goes g c =
     c.args.self.now.side.session.seen
     _ _ _ _ _ _ _ _ _ c.args.self.now.side.stopped p c.args.tasks
     c.pass_tasks.new.session.seen _ (sym c.in-None.ensures) h c.in-Ok.ensures.rest
-    c.take_batch.new.self _ c.in-Ok.made c.in-Err-take_batch.why c.in-Err-take_batch.ensures.head
+    c.take_batch.new.self _ c.in-Ok.made c.in-Err-take_batch.why c.in-Err-take_batch.ensures.kept
     c.in-Ok.ensures.failures c.in-Ok.ensures.filters
     (c.in-Err-take_batch.ensures.goes client s _
     (lent_holds s _ _ c.args.self.now.side.inner c.pass_tasks.new.inner _ _

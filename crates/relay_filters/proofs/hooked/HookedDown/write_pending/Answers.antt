@@ -8,6 +8,6 @@ returns-clause-goes g c = λ s p h.
     client_goes s _ _ _ _ c.args.self.now.side.inner _ _ _ _ c.args.self.now.side.session.seen _ _
     _ _ _ _ _ c.args.self.now.side.stopped p _ p.put _ p.batched _ [] _ h
     (sym c.is_lost.ensures ∙ c.if-is_lost.false)
-    c.write_pending-put.ensures.head refl refl refl refl (sym (append-nil p.closing))
+    c.write_pending-put.ensures.kept refl refl refl refl (sym (append-nil p.closing))
     (c.write_pending-put.ensures.goes s _ (past_of _ _ _ _
     (sym c.is_lost.ensures ∙ c.if-is_lost.false) h.holds))
