@@ -1,9 +1,8 @@
 //! The client's side of a duplex: what it means, and what each of its answers does.
-ghost use Rattle.std.specs.Prelude.{◌≡◌, ◌⊎◌, ◌++◌, ◌∷◌, ◌<◌, [], List, ℕ, Option, None, IsTrue, true};
+ghost use Rattle.std.specs.Prelude.{◌≡◌, ◌⊎◌, ◌++◌, ◌∷◌, ◌<◌, [], List, ℕ, None, IsTrue, true};
 ghost use Rattle.relay_tasks.specs.declared.error.Error.{Error};
 ghost use Rattle.relay_tasks.specs.declared.error.ErrorSource.TheVariants.{Downstream};
 ghost use Rattle.relay_tasks.specs.declared.task.HttpTask.{HttpTask};
-ghost use Rattle.relay_tasks.specs.Head.{RequestHead};
 ghost use Rattle.relay_links.specs.Count.{up};
 ghost use Rattle.relay_links.specs.Link.{LinkState, LinkStart};
 ghost use Rattle.relay_core.specs.Down.{DownState, may_read, ReadsPiece, TakesBatch, Writes, Finishes};
@@ -24,8 +23,8 @@ use relay_tasks::{Pause, Result, TaskList, Took};
 /// from it. `blames` says that the side answers for an error, `refuses` that it refuses these tasks
 /// behind those that it was given, and `cannot_end` that the response cannot end where it stands.
 /// `link` is the client's link as it stands: what an answer waits for stands in it. `start` is that
-/// link as it was handed out, which no call changes. `head` is the head of the request that the
-/// side holds, which no call changes.
+/// link as it was handed out, which no call changes. `kept` is what no call changes of the side
+/// itself, such as the head of its request.
 pub trait Down<C> {
     ghost state: { Self → DownState };
 
@@ -41,7 +40,9 @@ pub trait Down<C> {
 
     ghost start: { C → LinkStart };
 
-    ghost head: { Self → Option RequestHead };
+    ghost Kept: { Type 0 };
+
+    ghost kept: { Self → Kept };
 
     /// Whether the client may be read: not where its request has ended, and it waits for the answer
     /// to an upgrade or has its whole response.
@@ -64,7 +65,7 @@ pub trait Down<C> {
         requires { IsTrue (may_read (state self.old)) }
         ensures reads { ReadsPiece (state self.old) (state self.new) result }
         ensures start { start client.new ≡ start client.old }
-        ensures head { head self.new ≡ head self.old }
+        ensures kept { kept self.new ≡ kept self.old }
         ensures goes { (s : Origin) (p : DownPast) → past self.old client.old s p
             → DownGoes (past self.new client.new s) (blames self.new client.new s)
             (p.put ++ put_in (state self.old).upgraded result) p.batched p.closing
@@ -88,7 +89,7 @@ pub trait Down<C> {
     /// `Failed` comes alone and is answered with its error.
     fn take_batch(&mut self, tasks: TaskList, kind: UpKind) -> Result<bool>
         ensures takes { TakesBatch (state self.old) tasks (state self.new) result }
-        ensures head { head self.new ≡ head self.old }
+        ensures kept { kept self.new ≡ kept self.old }
         ensures goes { (client : C) (s : Origin) (p : DownPast)
             → past self.old client s p
             → BatchGoes (past self.new client s) (blames self.new client s)
@@ -103,7 +104,7 @@ pub trait Down<C> {
         requires { IsTrue (state self.old).pending }
         ensures writes { Writes (state self.old) (state self.new) result }
         ensures start { start client.new ≡ start client.old }
-        ensures head { head self.new ≡ head self.old }
+        ensures kept { kept self.new ≡ kept self.old }
         ensures goes { (s : Origin) (p : DownPast) → past self.old client.old s p
             → DownGoes (past self.new client.new s) (blames self.new client.new s)
             p.put p.batched p.closing (error_of_put Downstream result) }
@@ -119,7 +120,7 @@ pub trait Down<C> {
     /// Ends the response's body. Where it was ended already this queues nothing.
     fn finish(&mut self) -> Result<()>
         ensures ends { Finishes (state self.old) (state self.new) result }
-        ensures head { head self.new ≡ head self.old }
+        ensures kept { kept self.new ≡ kept self.old }
         ensures goes { (client : C) (s : Origin) (p : DownPast)
             → past self.old client s p
             → DownGoes (past self.new client s) (cannot_end self.new client s)

@@ -24,7 +24,7 @@ impl Duplex {
     pub(crate) fn down_write<C, D: Down<C>>(&mut self, client: &mut C, down: &mut D) -> Step
         requires { IsTrue (D.state down.old).pending }
         ensures start { D.start client.new ≡ D.start client.old }
-        ensures head { D.head down.new ≡ D.head down.old }
+        ensures keeps { D.kept down.new ≡ D.kept down.old }
         ensures exact { DownWrites self.old (D.state down.old) self.new (D.state down.new) result }
         ensures goes { (s : Origin) (p : DownPast) → D.past down.old client.old s p
             → DownWritesOn (D.past down.new client.new s) (D.blames down.new client.new s) p
@@ -60,7 +60,7 @@ impl Duplex {
     pub(crate) fn down_take<C, D: Down<C>>(&mut self, down: &mut D) -> Step
         requires { 0 < length self.old.responses.tasks }
         ensures exact { DownTakes self.old (D.state down.old) self.new (D.state down.new) result }
-        ensures head { D.head down.new ≡ D.head down.old }
+        ensures keeps { D.kept down.new ≡ D.kept down.old }
         ensures goes { (client : C) (s : Origin) (p : DownPast) → D.past down.old client s p
             → DownTakesOn (D.past down.new client s) (D.blames down.new client s)
             (D.refuses down.new client s) p self.old (D.state down.old) self.new
@@ -75,7 +75,7 @@ impl Duplex {
     fn give_batch<C, D: Down<C>>(&mut self, down: &mut D, tasks: TaskList) -> Step
         ensures exact { GivesBatch self.old (D.state down.old) tasks self.new (D.state down.new)
             result }
-        ensures head { D.head down.new ≡ D.head down.old }
+        ensures keeps { D.kept down.new ≡ D.kept down.old }
         ensures goes { (client : C) (s : Origin) (p : DownPast) → D.past down.old client s p
             → GivesBatchOn (D.past down.new client s) (D.blames down.new client s)
             (D.refuses down.new client s) p self.old (D.state down.old) tasks self.new
@@ -136,7 +136,7 @@ impl Duplex {
         requires room { IsTrue (has_room self.old.requests) }
         requires readable { IsTrue (may_read (D.state down.old)) }
         ensures start { D.start client.new ≡ D.start client.old }
-        ensures head { D.head down.new ≡ D.head down.old }
+        ensures keeps { D.kept down.new ≡ D.kept down.old }
         ensures exact { DownReads self.old (D.state down.old) self.new (D.state down.new) result }
         ensures goes { (s : Origin) (p : DownPast) → D.past down.old client.old s p
             → DownReadsOn (D.past down.new client.new s) (D.blames down.new client.new s) p
@@ -183,7 +183,7 @@ impl Duplex {
     /// Ends the response's body; with nothing pending then, the client's half has finished.
     pub(crate) fn down_finish<C, D: Down<C>>(&mut self, down: &mut D) -> Step
         ensures exact { DownEnds self.old (D.state down.old) self.new (D.state down.new) result }
-        ensures head { D.head down.new ≡ D.head down.old }
+        ensures keeps { D.kept down.new ≡ D.kept down.old }
         ensures goes { (client : C) (s : Origin) (p : DownPast) → D.past down.old client s p
             → DownEndsOn (D.past down.new client s) (D.cannot_end down.new client s) p self.old
             (D.state down.old) self.new (D.state down.new) result }

@@ -302,7 +302,7 @@ impl Duplex {
             → (D.link client.new).faults ≡ (D.link client.old).faults }
         ensures client_start { D.start client.new ≡ D.start client.old }
         ensures peer_start { U.start up.new ≡ U.start up.old }
-        ensures head { D.head down.new ≡ D.head down.old }
+        ensures keeps { D.kept down.new ≡ D.kept down.old }
     {
         match branch {
             Branch::UpWrite => self.up_write(up),
@@ -406,8 +406,8 @@ impl Duplex {
         // No call of a link changes what it was as it was handed out.
         ensures client_start { D.start client.new ≡ D.start client.old }
         ensures peer_start { U.start up.new ≡ U.start up.old }
-        // Nor does a call of the client's side change the head that it holds.
-        ensures head { D.head down.new ≡ D.head down.old }
+        // Nor does a call of the client's side change what it keeps.
+        ensures keeps { D.kept down.new ≡ D.kept down.old }
 
         // The client's request and the upstream's response become done for their causes alone.
         ensures request_done { IsTrue (is_reading self.old.client_request)

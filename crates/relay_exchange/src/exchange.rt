@@ -132,8 +132,8 @@ impl<D, U: Up> Exchange<D, U> {
             → (D.link client.new).faults ≡ (D.link client.old).faults }
         ensures client_start { D.start client.new ≡ D.start client.old }
         ensures peer_start { U.start self.new.up ≡ U.start self.old.up }
-        // No call of the client's side changes the head that it holds.
-        ensures head { D.head self.new.down ≡ D.head self.old.down }
+        // No call of the client's side changes what it keeps.
+        ensures keeps { D.kept self.new.down ≡ D.kept self.old.down }
     {
         if self.sends_head::<C>() {
             let step = send_head(
@@ -292,7 +292,7 @@ fn send_head<C, D: Down<C>, U: Up>(
         → (D.link client.new).faults ≡ (D.link client.old).faults }
     ensures client_start { D.start client.new ≡ D.start client.old }
     ensures peer_start { U.start up.new ≡ U.start up.old }
-    ensures head { D.head down.new ≡ D.head down.old }
+    ensures keeps { D.kept down.new ≡ D.kept down.old }
 {
     let step = write_head(client, down, up, duplex);
     *stage = stage_behind(up);
@@ -337,7 +337,7 @@ fn write_head<C, D: Down<C>, U: Up>(
         → (D.link client.new).faults ≡ (D.link client.old).faults }
     ensures client_start { D.start client.new ≡ D.start client.old }
     ensures peer_start { U.start up.new ≡ U.start up.old }
-    ensures head { D.head down.new ≡ D.head down.old }
+    ensures keeps { D.kept down.new ≡ D.kept down.old }
 {
     let step = duplex.step(client, down, up, Branch::UpWrite);
     match duplex.send_error() {

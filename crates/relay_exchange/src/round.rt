@@ -45,8 +45,8 @@ pub(crate) fn go_round<C, D: Down<C>, U: Up, H: Schedule>(
     ensures client_start { D.start client.new ≡ D.start client.old }
     ensures peer_start { U.start up.new ≡ U.start up.old }
 
-    // Nor does a call of the client's side change the head that it holds.
-    ensures head { D.head down.new ≡ D.head down.old }
+    // Nor does a call of the client's side change what it keeps.
+    ensures keeps { D.kept down.new ≡ D.kept down.old }
 
     // It waits only where a link answered so in this turn.
     ensures waits { result.0 ≡ Step.Waited Pause.NotReady

@@ -3,6 +3,7 @@
 mod attempt;
 mod duplexes;
 mod filters;
+mod hooked;
 mod peer;
 mod session;
 mod sides;

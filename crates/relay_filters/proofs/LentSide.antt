@@ -3,13 +3,14 @@
 use Rattle.std.proofs.Common.{◌≡◌, ℕ, Bool, true, false, ◌||◌, ◌&&◌, List, [], ◌++◌, Option, Some, None, Ok, Err, append-nil, refl, sym, ap, subst, true≢false, ◌∙◌, IsSome, unwrap_or}
 use Rattle.std.specs.List.{list_any}
 use Rattle.relay_tasks.specs.Head.{RequestHead, new_request}
+use Rattle.relay_tasks.specs.Task.{is_end}
 use Rattle.relay_tasks.specs.declared.error.Error.{Error}
 use Rattle.relay_tasks.specs.declared.error.Fail.{Fail}
 use Rattle.relay_tasks.specs.declared.error.Fail.TheVariants as fail
 use Rattle.relay_tasks.specs.declared.log.LogEntry.{LogEntry}
 use Rattle.relay_tasks.specs.declared.task.HttpTask.{HttpTask}
 use Rattle.relay_links.specs.Link.{LinkState}
-use Rattle.relay_session.specs.Reading.{head_of}
+use Rattle.relay_session.specs.Reading.{head_of, is_body_done}
 use Rattle.relay_session.specs.Response.{has_head}
 use Rattle.relay_session.specs.declared.session.HttpSession.{HttpSession}
 use Rattle.relay_core.specs.Past.{BatchRefused, DownGoes, DownPast, Origin, error_of_fail}
@@ -26,7 +27,7 @@ use Rattle.relay_sides.specs.Lent.{SameButHead}
 use Rattle.relay_sides.specs.declared.client_side.ClientSide.{ClientSide}
 use Rattle.relay_sides.proofs.LentLemmas.{IsSide-lent}
 use Rattle.relay_filters.specs.Chain.{Refuses}
-use Rattle.relay_filters.specs.Request.{Filtered, Filters}
+use Rattle.relay_filters.specs.Request.{Filtered, Filters, is_last}
 use Rattle.relay_filters.specs.Response.{BatchPasses, BatchStops, Outcome}
 use Rattle.relay_filters.specs.Hooked.{BlamesOver, InnerPast, IsHooked, PastBy, PastOf, RefusesOver, inside, is_lost, refused_at_once, seen_by}
 use Rattle.relay_filters.proofs.MoveLemmas.{final_stays}
@@ -57,7 +58,7 @@ kept_memory st known is = absurd (true≢false (sym (ap is_lost is) ∙ known))
 -- ---- an answer over another session
 
 -- what holds of each past holds of that of an answer
-goes_so : (holds holds' : DownPast → Type 0) (blames : DownPast → Error → Type 0)
+pub goes_so : (holds holds' : DownPast → Type 0) (blames : DownPast → Error → Type 0)
     (put batched closing : List HttpTask) (error : Option Error)
     → ((q : DownPast) → holds q → holds' q) → DownGoes holds blames put batched closing error
     → DownGoes holds' blames put batched closing error
@@ -70,7 +71,7 @@ goes_so holds holds' blames put batched closing error so g = record {
   blamed = g.blamed;
 }
 
-refused_so : (holds holds' : DownPast → Type 0)
+pub refused_so : (holds holds' : DownPast → Type 0)
     (refuses : DownPast → List HttpTask → Error → Type 0) (p : DownPast) (tasks : List HttpTask)
     (why : Fail) → ((q : DownPast) → holds q → holds' q)
     → BatchRefused holds refuses p tasks why → BatchRefused holds' refuses p tasks why
@@ -174,7 +175,7 @@ lent_past s link ahead side side' q rest same h =
     side.broken same h)
 
 -- where memory was wanted, what passed is that of the session before
-lost_past : (s : Origin) (link : LinkState) (ahead : List ℕ) (side side' : ClientSide)
+pub lost_past : (s : Origin) (link : LinkState) (ahead : List ℕ) (side side' : ClientSide)
     (q : DownPast) → Swapped side side' → PastBy s link ahead side side.session q
     → InnerPast (Some fail.OutOfMemory) s link ahead side' q
 lost_past s link ahead side side' q rest h =
@@ -227,8 +228,14 @@ module _ (s : Origin) (link link' : LinkState) (ahead ahead' : List ℕ)
     (seen_by seen side.session) mark first oh a ended false rf stood st p)
     (head : head_of given.session.reading ≡ head_of side.session.reading)
     (rest : Swapped given lent)
+    (done : is_last piece ≡ true → is_body_done given.session.reading ≡ true)
     (g : DownGoes (PastBy s link' ahead' given given.session) blames'
     (h.came ++ put_of false piece) h.queued p.closing None) where
+  -- the piece with which the client's body ends brings an end
+  end_came : is_last piece ≡ true → list_any is_end (h.came ++ put_of false piece) ≡ true
+  end_came last =
+      ap (list_any is_end) (sym g.is_put) ∙ g.stands.passed.client.whole (done last)
+
   -- before the hooks were called
   abbrev at_call : IsHooked (InnerPast st s link ahead side) (IsAllowed app modules) method
       (seen_by seen given.session) mark first oh a ended false rf stood st p
@@ -253,7 +260,7 @@ module _ (s : Origin) (link link' : LinkState) (ahead ahead' : List ℕ)
       (seen_by seen' lent.session) mark' _ f.call in
       reads_piece (InnerPast st s link ahead side) (InnerPast st s link' ahead' lent) blames' app
       modules method (seen_by seen given.session) mark first oh a ended false false rf stood st p
-      piece made (seen_by seen' lent.session) mark' on at_call refl f
+      piece made (seen_by seen' lent.session) mark' on at_call refl end_came f
       (goes_so (PastBy s link' ahead' given given.session) (InnerPast st s link' ahead' lent)
       blames' (h.came ++ put_of false piece) h.queued p.closing None
       (λ q stands. of_past (is_lost st) (PastBy s link' ahead' lent) lent.session q
@@ -283,7 +290,7 @@ module _ (s : Origin) (link link' : LinkState) (ahead ahead' : List ℕ)
       stops_at (InnerPast st s link ahead side) (InnerPast (Some why) s link' ahead' lent) blames'
       app modules method (seen_by seen given.session) mark first oh a ended false false rf stood st
       p piece why (p.put ++ []) (seen_by seen' lent.session) mark' on at_call refl
-      (append-nil p.put) f
+      (append-nil p.put) end_came f
       (goes_so (PastBy s link' ahead' given given.session)
       (InnerPast (Some why) s link' ahead' lent) blames' (h.came ++ put_of false piece) h.queued
       p.closing None (fails_so why f) g)

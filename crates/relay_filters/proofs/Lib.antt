@@ -9,3 +9,6 @@ mod SideLemmas
 mod MoveLemmas
 mod LentSide
 mod StateLemmas
+mod SegmentLemmas
+mod QuietLemmas
+mod AgainLemmas

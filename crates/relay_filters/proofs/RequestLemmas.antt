@@ -1,5 +1,8 @@
 -- The request by its calls, with one call more behind.
 use Rattle.std.proofs.Common.{◌≡◌, ℕ, Bool, true, false, not, ◌&&◌, ◌||◌, ◌==◌, if◌then◌else◌, List, [], ◌∷◌, ◌++◌, Option, Some, None, is_some, is_none, unwrap_or, option_to_list, length, arith, eqb-true, refl, sym, ap, ◌∙◌, append-nil, append_assoc}
+use Rattle.std.specs.List.{list_any}
+use Rattle.std.proofs.lemmas.List.Folds.{list_any-append}
+use Rattle.relay_tasks.specs.Task.{is_end}
 use Rattle.relay_tasks.specs.declared.error.Error.{Error}
 use Rattle.relay_tasks.specs.declared.log.Item.{Item}
 use Rattle.relay_tasks.specs.declared.log.Item.TheVariants as item
@@ -8,7 +11,7 @@ use Rattle.relay_tasks.specs.declared.task.HttpTask.{HttpTask}
 use Rattle.relay_tasks.specs.declared.task.HttpTask.TheVariants as task
 use Rattle.relay_core.specs.Piece.{is_empty, put_of}
 use Rattle.relay_core.specs.declared.piece.Piece.{Piece}
-use Rattle.relay_filters.specs.Request.{PassesRequest, body_of, bytes_in, bytes_of, ended_by, given_to, is_end_by, is_end_in, passed, passes, has_piece, piece_of, put_in_item, takes_away}
+use Rattle.relay_filters.specs.Request.{PassesRequest, body_of, bytes_in, bytes_of, end_in, ended_by, given_to, is_end_by, is_end_in, is_told_end, passed, passes, has_piece, piece_of, put_in_item, takes_away}
 
 -- ---- lists
 
@@ -89,6 +92,7 @@ same_request a ended es on came came' put put' is is' r =
       rest = r.rest;
       read = ap body_of is ∙ r.read;
       all = r.all;
+      told = λ t. ap (list_any is_end) is ∙ r.told t;
       left = is' ∙ r.left;
       is_ended = r.is_ended;
     }
@@ -106,6 +110,37 @@ module _ (u : Bool) (piece : Piece) (end : Bool) (came came' : List HttpTask) (e
         ∙ ap (λ (b : List ℕ). given_to es ++ b)
         (bytes_put u piece ∙ sym (ap bytes_in was))
         ∙ sym (append-nil (given_to (es ++ e ∷ [])) ∙ given_push es e)
+
+-- one of two
+or_first : (a b : Bool) → a ≡ true → (a || b) ≡ true
+or_first true b is = refl
+or_first false b is = cc
+
+-- an end that came stays
+end_stays : (came came' more : List HttpTask) → came' ≡ came ++ more
+    → list_any is_end came ≡ true → list_any is_end came' ≡ true
+end_stays came came' more is ends =
+    ap (list_any is_end) is ∙ list_any-append is_end came more
+    ∙ or_first (list_any is_end came) (list_any is_end more) ends
+
+-- the calls were told the end only where it came, with one more
+told_push : (es : List LogEntry) (e : LogEntry) (came came' more : List HttpTask)
+    (bytes : Option (List ℕ)) (end : Bool) → came' ≡ came ++ more
+    → (list_any is_told_end es ≡ true → list_any is_end came ≡ true)
+    → (end ≡ true → list_any is_end came' ≡ true) → e.input ≡ item.Piece bytes end
+    → list_any is_told_end (es ++ e ∷ []) ≡ true → list_any is_end came' ≡ true
+told_push es e came came' more bytes end is told ends was so =
+    by_last (list_any is_told_end es) refl
+    (sym (list_any-append is_told_end es (e ∷ [])) ∙ so)
+  where
+    only : (a : Bool) → (a || false) ≡ true → a ≡ true
+    only true is = refl
+    only false is = cc
+
+    by_last : (before : Bool) → list_any is_told_end es ≡ before
+        → (before || (is_told_end e || false)) ≡ true → list_any is_end came' ≡ true
+    by_last true was_told so = end_stays came came' more is (told was_told)
+    by_last false none so = ends (sym (ap end_in was) ∙ only (is_told_end e) so)
 
 -- what was left of a piece ends the request by the call that left it
 ends_of : (error : Option Error) (input output : Item) (bytes left : Option (List ℕ)) (end : Bool)
@@ -130,18 +165,20 @@ fails_no_end e bad = by_error e.error (is_end_in (has_piece e.input) e.output) b
 pub one_piece : (a ended end client_end u : Bool) (es : List LogEntry) (on : Type 0)
     (came came' put put' : List HttpTask) (piece : Piece) (left : Option (List ℕ)) (e : LogEntry)
     → on → PassesRequest a ended es on came put → came' ≡ came ++ put_of u piece
+    → (end ≡ true → list_any is_end came' ≡ true)
     → put' ≡ put ++ put_of false (piece_of ended end client_end (is_some piece.bytes) left)
     → e.input ≡ item.Piece piece.bytes end → e.output ≡ item.Piece left end → e.error ≡ None
     → PassesRequest a
     (ended || (piece_of ended end client_end (is_some piece.bytes) left).upstream_end)
     (es ++ e ∷ []) on
     came' put'
-one_piece a ended end client_end u es on came came' put put' piece left e is_on r is is' was became
-    ok =
+one_piece a ended end client_end u es on came came' put put' piece left e is_on r is ends is' was
+    became ok =
     record {
       rest = [];
       read = read_on u piece end came came' es e r.rest r.read (r.all is_on) is was;
       all = λ so. refl;
+      told = told_push es e came came' (put_of u piece) piece.bytes end is r.told ends was;
       left = is' ∙ ap (λ (xs : List HttpTask).
           xs ++ put_of false (piece_of ended end client_end (is_some piece.bytes) left))
           r.left
@@ -176,18 +213,21 @@ one_piece a ended end client_end u es on came came' put put' piece left e is_on 
 -- the filter refused a piece
 pub one_refused : (a ended end u : Bool) (es : List LogEntry) (on on' : Type 0)
     (came came' put put' : List HttpTask) (piece : Piece) (e : LogEntry)
-    → on → PassesRequest a ended es on came put → came' ≡ came ++ put_of u piece → put' ≡ put
+    → on → PassesRequest a ended es on came put → came' ≡ came ++ put_of u piece
+    → (end ≡ true → list_any is_end came' ≡ true) → put' ≡ put
     → e.input ≡ item.Piece piece.bytes end → is_some e.error ≡ true
     → PassesRequest a ended (es ++ e ∷ []) on' came' put'
-one_refused a ended end u es on on' came came' put put' piece e is_on r is is' was bad = record {
-  rest = [];
-  read = read_on u piece end came came' es e r.rest r.read (r.all is_on) is was;
-  all = λ so. refl;
-  left = is' ∙ r.left ∙ sym (append-nil (passed a es))
-      ∙ ap (λ (xs : List HttpTask). passed a es ++ xs) (sym (none_passes (ended_by a es)))
-      ∙ sym (passed_push a es e);
-  is_ended = r.is_ended ∙ sym (ended_push a es e ∙ no_end (ended_by a es));
-}
+one_refused a ended end u es on on' came came' put put' piece e is_on r is ends is' was
+    bad = record {
+      rest = [];
+      read = read_on u piece end came came' es e r.rest r.read (r.all is_on) is was;
+      all = λ so. refl;
+      told = told_push es e came came' (put_of u piece) piece.bytes end is r.told ends was;
+      left = is' ∙ r.left ∙ sym (append-nil (passed a es))
+          ∙ ap (λ (xs : List HttpTask). passed a es ++ xs) (sym (none_passes (ended_by a es)))
+          ∙ sym (passed_push a es e);
+      is_ended = r.is_ended ∙ sym (ended_push a es e ∙ no_end (ended_by a es));
+    }
   where
     none_passes : (b : Bool) → passes b e ≡ []
     none_passes true = refl
@@ -209,6 +249,7 @@ one_lost a ended u es on on' came came' put put' piece off r is is' = record {
       ∙ ap (λ (b : List ℕ). b ++ body_of (put_of u piece)) r.read
       ∙ append_assoc (given_to es) r.rest (body_of (put_of u piece));
   all = λ so. absurd (off so);
+  told = λ t. end_stays came came' (put_of u piece) is (r.told t);
   left = is' ∙ r.left;
   is_ended = r.is_ended;
 }

@@ -1,5 +1,5 @@
 -- A side behind filters: how each answer of the inner side goes on, with the calls that it led to.
-use Rattle.std.proofs.Common.{◌≡◌, ℕ, ◌<◌, Bool, true, false, ◌||◌, ◌&&◌, List, [], ◌∷◌, ◌++◌, length, Option, Some, None, is_some, Ok, Err, arith, length-append, refl, sym, ap, subst, ◌∙◌, append-nil, append_assoc, inl, inr, IsTrue, IsSome, option_map, unwrap_or}
+use Rattle.std.proofs.Common.{◌≡◌, ℕ, ◌<◌, Bool, true, false, ◌||◌, ◌&&◌, List, [], ◌∷◌, ◌++◌, length, Option, Some, None, is_some, Ok, Err, arith, length-append, refl, sym, ap, subst, ◌∙◌, append-nil, append_assoc, inl, inr, true≢false, IsTrue, IsSome, option_map, unwrap_or}
 use Rattle.std.specs.List.{list_any}
 use Rattle.relay_tasks.specs.declared.error.Error.{Error}
 use Rattle.relay_tasks.specs.declared.error.Fail.{Fail}
@@ -10,6 +10,7 @@ use Rattle.relay_tasks.specs.declared.log.LogEntry.{LogEntry}
 use Rattle.relay_tasks.specs.declared.task.HttpTask.{HttpTask}
 use Rattle.relay_tasks.specs.declared.task.HttpTask.TheVariants as task
 use Rattle.relay_tasks.specs.Error.{IsMemoryOr}
+use Rattle.relay_tasks.specs.Task.{is_end}
 use Rattle.relay_session.specs.Reading.{head_of}
 use Rattle.relay_core.specs.Past.{BatchRefused, DownGoes, DownPast, error_of_fail}
 use Rattle.relay_core.specs.Pipe.{is_failure}
@@ -40,7 +41,7 @@ some_none : {A : Type 0} (why : Fail) → Some why ≡ None → A
 some_none why is = cc
 
 -- the error of a failure is its own
-fail_is : (why : Fail) (e : Error) → error_of_fail why ≡ Some e → why ≡ fail.Error e
+pub fail_is : (why : Fail) (e : Error) → error_of_fail why ≡ Some e → why ≡ fail.Error e
 fail_is fail.OutOfMemory e told = cc
 fail_is (fail.Error error) e told = ap fail.Error (some_error error e told)
   where
@@ -356,21 +357,6 @@ goes_on inner inner' blames' allows method seen mark first oh a ended ended' u u
       blamed = λ e told. inl (g.past.put, g.past.batched, g.stands, g.blamed e told);
     }
 
--- a side that has stopped answers why
-pub stays_stopped : (holds : DownPast → Type 0) (inner : DownPast → Type 0)
-    (blames : DownPast → Error → Type 0) (st : Option Fail) (why : Fail) (p : DownPast)
-    (put : List HttpTask) → st ≡ Some why → put ≡ p.put → holds p
-    → DownGoes holds (λ past e. BlamesOver inner blames st past e) put p.batched p.closing
-    (error_of_fail why)
-stays_stopped holds inner blames st why p put is same h = record {
-  past = p;
-  stands = h;
-  is_put = sym same;
-  is_batched = refl;
-  is_closing = refl;
-  blamed = λ e told. inr (is ∙ ap Some (fail_is why e told));
-}
-
 -- a side whose session has no head is none of which something passed
 pub no_head : {A : Type 0} (inner : DownPast → Type 0) (allows : Standing → LogEntry → Type 0)
     (method : List ℕ) (seen : Seen) (mark first : ℕ) (oh a ended u rf stood : Bool)
@@ -438,6 +424,7 @@ reads_open : (inner inner' : DownPast → Type 0) (blames' : DownPast → Error 
     (piece made : Piece) (seen' : Seen) (mark' : ℕ)
     (h : IsHooked inner (IsAllowed app modules) method seen mark first oh a ended u rf stood None p)
     → u' ≡ u
+    → (is_last piece ≡ true → list_any is_end (h.came ++ put_of u piece) ≡ true)
     → Filtered app ended piece made seen mark seen' mark'
     → DownGoes inner' blames' (h.came ++ put_of u piece) h.queued p.closing None
     → DownGoes (IsHooked inner' (IsAllowed app modules) method seen' mark' first oh a
@@ -446,7 +433,7 @@ reads_open : (inner inner' : DownPast → Type 0) (blames' : DownPast → Error 
     None
 reads_open inner inner' blames' app modules method seen mark first oh a ended u u' rf stood p piece
     made seen' mark' h
-    up f g =
+    up ends f g =
     let end = is_last piece in
     let left = f.left in
     let e = entered inner app modules method seen mark first oh a ended u rf stood p h piece.bytes
@@ -482,6 +469,7 @@ reads_open inner inner' blames' app modules method seen mark first oh a ended u 
             mark' (only (item.Piece left end)) f.call))
             (one_piece a ended end piece.client_end u (requests_in h.own) Going h.came
             g.past.put p.put (p.put ++ put_of u one) piece left e refl (h.request low) g.is_put
+            (λ is. ap (list_any is_end) g.is_put ∙ ends is)
             (ap (λ (b : Bool). p.put ++ put_of b one) low) refl refl refl);
         is_of_head = h.is_of_head;
         response =
@@ -509,6 +497,7 @@ stops_open : (inner inner' : DownPast → Type 0) (blames' : DownPast → Error 
     (seen' : Seen) (mark' : ℕ) (h : IsHooked inner (IsAllowed app modules) method seen mark first
     oh a ended u rf stood None p)
     → u' ≡ u → put ≡ p.put
+    → (is_last piece ≡ true → list_any is_end (h.came ++ put_of u piece) ≡ true)
     → Filters app ended piece (Err why) seen mark seen' mark'
     → DownGoes inner' blames' (h.came ++ put_of u piece) h.queued p.closing None
     → DownGoes (IsHooked inner' (IsAllowed app modules) method seen' mark' first oh a ended u' rf
@@ -517,7 +506,7 @@ stops_open : (inner inner' : DownPast → Type 0) (blames' : DownPast → Error 
     (error_of_fail why)
 stops_open inner inner' blames' app modules method seen mark first oh a ended u u' rf stood p piece
     fail.OutOfMemory
-    put seen' mark' h up same f g = record {
+    put seen' mark' h up same ends f g = record {
       past = record g.past { put = put; batched = p.batched };
       stands = record {
         came = g.past.put;
@@ -552,7 +541,7 @@ stops_open inner inner' blames' app modules method seen mark first oh a ended u 
       blamed = λ e isnt. cc;
     }
 stops_open inner inner' blames' app modules method seen mark first oh a ended u u' rf stood p piece
-    (fail.Error error) put seen' mark' h up same f g =
+    (fail.Error error) put seen' mark' h up same ends f g =
     let end = is_last piece in
     let left = failed (item.Piece f.left end) error in
     let e = entered inner app modules method seen mark first oh a ended u rf stood p h piece.bytes
@@ -581,7 +570,8 @@ stops_open inner inner' blames' app modules method seen mark first oh a ended u 
             mark' left f.call))
             (one_refused a ended end u (requests_in h.own) Going
             (Some (fail.Error error) ≡ None) h.came g.past.put p.put put piece e refl
-            (h.request (sym up ∙ plain)) g.is_put same refl refl);
+            (h.request (sym up ∙ plain)) g.is_put
+            (λ is. ap (list_any is_end) g.is_put ∙ ends is) same refl refl);
         is_of_head = h.is_of_head;
         response =
             same_response oh stood (h.own ++ e ∷ []) (TakesOn (Some (fail.Error error)) rf)
@@ -611,6 +601,7 @@ pub reads_piece : (inner inner' : DownPast → Type 0) (blames' : DownPast → E
     (seen' : Seen) (mark' : ℕ) → st ≡ None
     → (h : IsHooked inner (IsAllowed app modules) method seen mark first oh a ended u rf stood st p)
     → u' ≡ u
+    → (is_last piece ≡ true → list_any is_end (h.came ++ put_of u piece) ≡ true)
     → Filtered app ended piece made seen mark seen' mark'
     → DownGoes inner' blames' (h.came ++ put_of u piece) h.queued p.closing None
     → DownGoes (IsHooked inner' (IsAllowed app modules) method seen' mark' first oh a
@@ -636,6 +627,7 @@ pub stops_at : (inner inner' : DownPast → Type 0) (blames' : DownPast → Erro
     → (h : IsHooked inner (IsAllowed app modules) method seen mark first oh a ended u rf stood st p)
     → u' ≡ u
     → put ≡ p.put
+    → (is_last piece ≡ true → list_any is_end (h.came ++ put_of u piece) ≡ true)
     → Filters app ended piece (Err why) seen mark seen' mark'
     → DownGoes inner' blames' (h.came ++ put_of u piece) h.queued p.closing None
     → DownGoes (IsHooked inner' (IsAllowed app modules) method seen' mark' first oh a ended u' rf
@@ -698,6 +690,7 @@ request_same a ended own own' on on' came came' put put' is off same same' r =
       rest = r.rest;
       read = r.read;
       all = λ o. r.all (off o);
+      told = r.told;
       left = r.left;
       is_ended = r.is_ended;
     }))
@@ -1065,8 +1058,12 @@ longer log log' e is one =
 
 -- ---- the beginning
 
+-- a side that has not stopped stopped for no error
+pub none_error : {A : Type 0} (e : Error) → None ≡ Some (fail.Error e) → A
+none_error e is = cc
+
 -- before the first piece nothing passed
-pub begins : (holds : DownPast → Type 0) (allows : Standing → LogEntry → Type 0)
+abbrev pub begins : (holds : DownPast → Type 0) (allows : Standing → LogEntry → Type 0)
     (method : List ℕ) (seen : Seen) (mark first : ℕ) (oh ended u : Bool) (p : DownPast)
     → first ≡ length seen.log → IsSome (head_of seen.downstream.reading) → p.put ≡ []
     → p.batched ≡ [] → oh ≡ is_head_request method → holds p
@@ -1091,6 +1088,7 @@ begins holds allows method seen mark first oh ended u p len head none none' own 
     rest = [];
     read = refl;
     all = λ so. refl;
+    told = λ t. absurd (true≢false (sym t));
     left = none;
     is_ended = refl;
   };
@@ -1101,7 +1099,7 @@ begins holds allows method seen mark first oh ended u p len head none none' own 
     by_modules = nothing (PassedModules true) [] refl;
   };
   head = λ on. head;
-  told = λ e is. cc;
+  told = λ e is. none_error e is;
 }
   where
     nothing : (chain : HttpTask → List LogEntry → HttpTask → Type 0) (xs : List HttpTask)

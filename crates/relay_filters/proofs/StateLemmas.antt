@@ -8,7 +8,7 @@ use Rattle.relay_tasks.specs.declared.log.LogEntry.{LogEntry}
 use Rattle.relay_tasks.specs.declared.task.HttpTask.{HttpTask}
 use Rattle.relay_tasks.specs.declared.task.HttpTask.TheVariants as task
 use Rattle.relay_tasks.specs.Error.{IsMemoryOr}
-use Rattle.relay_session.specs.Reading.{head_of}
+use Rattle.relay_session.specs.Reading.{head_of, is_body_done}
 use Rattle.relay_core.specs.Down.{DownState, GivesPiece, QueuesBatch, RefusesBatch}
 use Rattle.relay_core.specs.Pipe.{is_failure}
 use Rattle.relay_core.specs.Piece.{put_of}
@@ -57,6 +57,27 @@ passes_so false given piece left = record {
   nothing_behind = λ wrong. absurd (true≢false (sym wrong));
   client = refl;
 }
+
+-- the client's body has ended behind the piece with which the request ends
+pub ended_behind : (side given : ClientSide) (piece : Piece)
+    → GivesPiece (state_of_side side) (state_of_side given) piece → is_last piece ≡ true
+    → is_body_done given.session.reading ≡ true
+ended_behind side given piece gives last =
+    by_upstream piece.upstream_end piece.client_end last
+    (ap (λ (x : DownState). x.request_ended) gives.exact)
+    (ap (λ (x : DownState). x.body_done) gives.exact)
+  where
+    or_right : (b : Bool) → (b || true) ≡ true
+    or_right true = refl
+    or_right false = refl
+
+    by_upstream : (up client : Bool) → (up || client) ≡ true
+        → is_body_done given.session.reading ≡ (is_body_done side.session.reading || up)
+        → is_body_done given.session.reading ≡ (is_body_done side.session.reading || client)
+        → is_body_done given.session.reading ≡ true
+    by_upstream true client ends is is' = is ∙ or_right (is_body_done side.session.reading)
+    by_upstream false true ends is is' = is' ∙ or_right (is_body_done side.session.reading)
+    by_upstream false false ends is is' = cc
 
 -- a piece that passed its filter
 pub gives_piece : (app : Standing → LogEntry → Type 0) (side given lent : ClientSide) (seen : Seen)

@@ -1,6 +1,6 @@
 -- What passed through a side behind filters: what its inner side put and was given, and by the log
 -- what the filters let pass and made of it.
-use Rattle.std.specs.Prelude.{◌≡◌, ℕ, Bool, true, false, ◌||◌, if◌then◌else◌, ◌⊎◌, List, [], ◌∷◌, ◌++◌, length, Option, Some, None, is_some, option_map, unwrap_or, IsSome}
+use Rattle.std.specs.Prelude.{◌≡◌, ℕ, Bool, true, false, ◌||◌, if◌then◌else◌, ◌⊎◌, List, [], ◌∷◌, ◌++◌, drop, length, Option, Some, None, is_some, option_map, unwrap_or, IsSome, Result, Ok, Err}
 use Rattle.relay_tasks.specs.declared.error.Error.{Error}
 use Rattle.relay_tasks.specs.declared.error.Fail.{Fail}
 use Rattle.relay_tasks.specs.declared.error.Fail.TheVariants as fail
@@ -13,17 +13,20 @@ use Rattle.relay_session.specs.Reading.{head_of}
 use Rattle.relay_session.specs.declared.session.HttpSession.{HttpSession}
 use Rattle.relay_core.specs.Down.{DownState}
 use Rattle.relay_core.specs.Past.{DownPast, Origin}
+use Rattle.relay_core.specs.Piece.{put_of}
+use Rattle.relay_core.specs.declared.piece.Piece.{Piece}
 use Rattle.relay_core.specs.declared.told.Told.{Told}
 use Rattle.relay_modules.specs.declared.seen.Seen.{Seen}
 use Rattle.relay_hooks.specs.Standing.{Standing, standing}
 use Rattle.relay_hooks.specs.Session.{moment}
 use Rattle.relay_calls.specs.Log.{Walk, requests_in}
 use Rattle.relay_sides.specs.Client.{IsSide, state_of}
-use Rattle.relay_sides.specs.Filtered.{is_head_request}
+use Rattle.relay_sides.specs.Filtered.{is_head_request, stops_for_error}
 use Rattle.relay_sides.specs.declared.client_side.ClientSide.{ClientSide}
 use Rattle.relay_filters.specs.Chain.{Refuses}
 use Rattle.relay_filters.specs.Request.{PassesRequest}
 use Rattle.relay_filters.specs.Response.{BatchStops, MakesOf, WasMade}
+use Rattle.relay_filters.specs.Segments.{InSegments}
 use Rattle.relay_filters.specs.declared.unhooked.Shown.{Shown}
 
 -- ---- the state
@@ -93,6 +96,16 @@ abbrev pub stood_head : Bool → HttpSession → Option RequestHead
 stood_head lost client =
     if lost || is_some (head_of client.reading) then Some (new_request [] []) else None
 
+-- what no call of the side changes: its application, how many calls stood in the log before its
+-- own, whether its request had ended before the first of them, and is a HEAD, and whether there is a
+-- head
+pub record Stays (A : Type 0) : Type 0 where
+  pub app : A
+  pub first : ℕ
+  pub at_first : Bool
+  pub of_head : Bool
+  pub head : Option RequestHead
+
 -- the past of the inner side over the client's session; where that is lost, over the one before
 abbrev pub PastOf : Bool → (HttpSession → DownPast → Type 0) → HttpSession → DownPast → Type 0
 PastOf false past client p = past client p
@@ -148,6 +161,32 @@ pub record IsHooked (inner : DownPast → Type 0) (allows : Standing → LogEntr
   pub head : stopped ≡ None → IsSome (head_of seen.downstream.reading)
   -- the side stopped for what its last call answered or left
   pub told : (e : Error) → stopped ≡ Some (fail.Error e) → Refuses of_head e own
+
+-- what the errors that the side told say of those of its inner one: where it told none, the inner
+-- one told none, and no filter stopped the side for one; where it told one alone, the inner one
+-- told none, or that one alone, and no filter stopped the side for one
+pub record IsQuiet (stopped : Option Fail) (told inner_told : Told) : Type 0 where
+  pub none : told.errors ≡ 0
+      → (inner_told.errors ≡ 0) × (stops_for_error stopped ≡ false)
+  pub one : told.errors ≡ 1 → (inner_told.errors ≡ 0)
+      ⊎ ((inner_told.errors ≡ 1) × (inner_told.last ≡ told.last)
+      × (stops_for_error stopped ≡ false))
+
+-- the past of a side: what passed, what its errors say of those of its inner one, and its calls,
+-- which stand in the log behind so many, in order
+pub record HookedPast (inner : DownPast → Type 0) (allows : Standing → LogEntry → Type 0)
+    (method : List ℕ) (seen : Seen) (mark first : ℕ)
+    (of_head at_first ended upgraded refused stood : Bool) (stopped : Option Fail)
+    (told inner_told : Told) (p : DownPast) : Type 0 where
+  pub passed : IsHooked inner allows method seen mark first of_head at_first ended upgraded refused
+      stood stopped p
+  pub quiet : IsQuiet stopped told inner_told
+  pub calls : InSegments of_head stopped (drop first seen.log)
+
+-- what is put of a piece that was put again, by what came of it: what passed, or nothing
+abbrev pub put_by : Result Piece Fail → List HttpTask
+put_by (Ok made) = put_of false made
+put_by (Err why) = []
 
 -- the side answers for an error: its inner one does, or it stopped for it
 abbrev pub BlamesOver : (DownPast → Type 0) → (DownPast → Error → Type 0) → Option Fail → DownPast

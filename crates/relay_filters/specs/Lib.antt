@@ -1,5 +1,6 @@
 pub mod Request
 pub mod Chain
 pub mod Response
+pub mod Segments
 pub mod Hooked
 pub mod Delay

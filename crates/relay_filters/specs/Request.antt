@@ -1,6 +1,8 @@
 -- The request as its filter lets it pass, read off the log: what each call was given, and what went
 -- on of it.
-use Rattle.std.specs.Prelude.{◌≡◌, ℕ, Bool, false, ◌&&◌, ◌||◌, if◌then◌else◌, List, [], ◌∷◌, ◌++◌, Option, None, is_some, is_none, unwrap_or, Result, Ok, Err}
+use Rattle.std.specs.Prelude.{◌≡◌, ℕ, Bool, true, false, ◌&&◌, ◌||◌, if◌then◌else◌, List, [], ◌∷◌, ◌++◌, Option, None, is_some, is_none, unwrap_or, Result, Ok, Err}
+use Rattle.std.specs.List.{list_any}
+use Rattle.relay_tasks.specs.Task.{is_end}
 use Rattle.relay_tasks.specs.declared.error.Error.{Error}
 use Rattle.relay_tasks.specs.declared.error.Fail.{Fail}
 use Rattle.relay_tasks.specs.declared.error.Fail.TheVariants as fail
@@ -60,6 +62,15 @@ abbrev pub put_in_item : Bool → Item → List HttpTask
 put_in_item given (item.Piece left end) = put_of false (piece_of false end end given left)
 put_in_item given other = []
 
+-- the end of the request
+abbrev pub end_in : Item → Bool
+end_in (item.Piece bytes end) = end
+end_in other = false
+
+-- a call was told the end of the request
+abbrev pub is_told_end : LogEntry → Bool
+is_told_end e = end_in e.input
+
 -- the bytes that the calls were given, joined
 abbrev pub given_to : List LogEntry → List ℕ
 given_to [] = []
@@ -98,12 +109,14 @@ body_of [] = []
 body_of (task ∷ tasks) = bytes_of task ++ body_of tasks
 
 -- the request as it came and as it passed by these calls: they were given what came, from its first
--- byte, and all of it while the side goes on; what is put is what they left, up to the first end
+-- byte, and all of it while the side goes on, and are told the end only where an end came; what is
+-- put is what they left, up to the first end
 pub record PassesRequest (at_first ended : Bool) (es : List LogEntry) (goes_on : Type 0)
     (came put : List HttpTask) : Type 0 where
   pub rest : List ℕ
   pub read : body_of came ≡ given_to es ++ rest
   pub all : goes_on → rest ≡ []
+  pub told : list_any is_told_end es ≡ true → list_any is_end came ≡ true
   pub left : put ≡ passed at_first es
   pub is_ended : ended ≡ ended_by at_first es
 

@@ -1,15 +1,19 @@
 //! The client's side behind the filters of an application: the pieces of the request that the inner
 //! side gives pass them, and so do the tasks of the response that it takes.
-ghost use Rattle.std.specs.Prelude.{◌≡◌, ◌||◌, ◌⊎◌, ◌^◌, ◌-◌, [], drop, length, min, is_some, true, false, None, IsSome, option_map, unwrap_or};
+ghost use Rattle.std.specs.Prelude.{◌≡◌, ◌||◌, ◌⊎◌, ◌^◌, ◌-◌, [], drop, length, min, is_some, true, false, None, Some, IsSome, IfErr, IfOk, option_map, unwrap_or};
+ghost use Rattle.std.specs.List.{list_any};
+ghost use Rattle.relay_tasks.specs.Task.{is_end};
 ghost use Rattle.relay_tasks.specs.declared.error.Fail.TheVariants as fail;
-ghost use Rattle.relay_session.specs.Reading.{head_of};
+ghost use Rattle.relay_session.specs.Reading.{head_of, is_body_done};
 ghost use Rattle.relay_core.specs.Past.{Origin, DownPast};
+ghost use Rattle.relay_core.specs.Piece.{put_of};
 ghost use Rattle.relay_sides.specs.Client.{CannotEnd, ClientBlames, ClientRefuses};
 ghost use Rattle.relay_sides.specs.Filtered.{is_head_request};
 ghost use Rattle.relay_calls.specs.Log.{IsAllowed};
 ghost use Rattle.relay_filters.specs.Response.{SomeAllow};
 ghost use Rattle.relay_filters.specs.Delay.{delays_of};
-ghost use Rattle.relay_filters.specs.Hooked.{BlamesOver, InnerPast, IsHooked, PastBy, RefusesOver, failure_in_front, is_lost, refused_at_once, seen_by, state_of_side, state_over, stood_head};
+ghost use Rattle.relay_filters.specs.Request.{is_last};
+ghost use Rattle.relay_filters.specs.Hooked.{BlamesOver, HookedPast, InnerPast, PastBy, RefusesOver, Stays, failure_in_front, is_lost, put_by, refused_at_once, seen_by, state_of_side, state_over, stood_head};
 
 use crate::lent::{pass_piece, pass_tasks};
 use crate::request::either;
@@ -86,13 +90,22 @@ impl<'a, SV: ProxyHttp> Hooked<'a, SV> {
             → IsSome (head_of inner.session.reading) → p.put ≡ [] → p.batched ≡ []
             → of_head ≡ is_head_request s.head.method
             → PastBy s (F.state client) (F.ahead client) inner inner.session p
-            → IsHooked (InnerPast result.side.stopped s (F.state client) (F.ahead client)
+            → HookedPast (InnerPast result.side.stopped s (F.state client) (F.ahead client)
             result.side.inner)
             (IsAllowed (SV.allows result.app.now) (SomeAllow SV.Modules.allows))
             s.head.method (seen_by result.side.session.seen result.side.inner.session)
             (SV.mark_of result.app.now result.side.ctx) result.side.first result.side.of_head
             result.side.at_first result.side.ended false result.side.refused
-            result.side.stood result.side.stopped p }
+            result.side.stood result.side.stopped result.side.told result.side.inner.told p }
+        ensures app { result.app ≡ app.entry }
+        ensures session { result.side.session ≡ session }
+        ensures ctx { result.side.ctx ≡ ctx }
+        // Nothing has stopped it, and it has told what its inner side has.
+        ensures first { result.side.first ≡ length session.seen.log }
+        ensures at_first { result.side.at_first ≡ ended }
+        ensures ended { result.side.ended ≡ ended }
+        ensures stopped { result.side.stopped ≡ None }
+        ensures told { result.side.told ≡ inner.told }
         ensures counted { result.side.counted ≡ length session.seen.log }
         ensures stood { result.side.stood ≡ true }
     {
@@ -117,6 +130,88 @@ impl<'a, SV: ProxyHttp> Hooked<'a, SV> {
             },
         };
         Hooked { app, side }
+    }
+
+    /// The side of an attempt that puts again what was read of the body, as `new`, and what passes of
+    /// that: `first` is all that was read, as one piece, with the end of a body that has ended. It
+    /// passes the filter of requests by one call, before any piece that is read. What passes is put
+    /// first. An error of the filter stops the side before anything was put.
+    ///
+    /// What passed is as inside, where that piece was put and nothing was taken yet.
+    pub fn begin_again<F: Front>(
+        app: &'a SV,
+        session: Session<SV::Modules>,
+        ctx: SV::CTX,
+        inner: ClientSide,
+        first: Piece,
+        of_head: bool,
+    ) -> (Hooked<'a, SV>, Result<Piece>)
+        requires { IsSome (head_of inner.session.reading) }
+        ensures begins { (client : F) (s : Origin) (p : DownPast) → p.put ≡ put_of false first
+            → p.batched ≡ []
+            → (is_last first ≡ true → list_any is_end (put_of false first) ≡ true)
+            → of_head ≡ is_head_request s.head.method
+            → PastBy s (F.state client) (F.ahead client) inner inner.session p
+            → HookedPast (InnerPast result.0.side.stopped s (F.state client) (F.ahead client)
+            result.0.side.inner)
+            (IsAllowed (SV.allows result.0.app.now) (SomeAllow SV.Modules.allows))
+            s.head.method (seen_by result.0.side.session.seen result.0.side.inner.session)
+            (SV.mark_of result.0.app.now result.0.side.ctx) result.0.side.first
+            result.0.side.of_head result.0.side.at_first result.0.side.ended false
+            result.0.side.refused result.0.side.stood result.0.side.stopped result.0.side.told
+            result.0.side.inner.told (record p { put = put_by result.1 }) }
+        // The request has ended where it ends with what passes, and the client's body where it had.
+        ensures ended { IfOk result.1 (λ made. result.0.side.ended ≡ made.upstream_end) }
+        ensures end { IfOk result.1 (λ made. is_last first ≡ true → made.upstream_end ≡ true) }
+        ensures body { IfOk result.1 (λ made. is_body_done result.0.side.inner.session.reading
+            ≡ is_body_done inner.session.reading) }
+        ensures goes_on { IfOk result.1 (λ made. result.0.side.stopped ≡ None) }
+        ensures failed { IfErr result.1 (λ why. result.0.side.stopped ≡ Some why) }
+        ensures told { IfOk result.1 (λ made. result.0.side.told ≡ inner.told) }
+        ensures app { result.0.app ≡ app.entry }
+        ensures counted { result.0.side.counted ≡ length session.seen.log }
+        ensures stood { result.0.side.stood ≡ true }
+    {
+        let at = session.phase_log().len();
+        let told = Down::<F>::told(&inner);
+        let mut side = Unhooked {
+            session,
+            ctx,
+            inner,
+            told,
+            of_head,
+            first: at,
+            counted: at,
+            at_first: false,
+            ended: false,
+            stopped: None,
+            refused: false,
+            stood: true,
+            was: Shown {
+                body_done: false,
+                pending: false,
+            },
+        };
+        let was = side.shows::<F>();
+        match pass_piece(
+            app,
+            &mut side.session,
+            &mut side.ctx,
+            &mut side.inner,
+            false,
+            first,
+        ) {
+            Ok(made) => {
+                side.ended = made.upstream_end;
+                (Hooked { app, side }, Ok(made))
+            }
+            Err(why) => {
+                side.stopped = Some(why);
+                side.was = was;
+                side.told = side.told.failed(why);
+                (Hooked { app, side }, Err(why))
+            }
+        }
     }
 
     /// All of the side but the application, to be held while no turn is taken.
@@ -198,12 +293,12 @@ impl<'a, SV: ProxyHttp, F: Front> Down<F> for Hooked<'a, SV> {
     ghost state = { λ f. state_over (state_of_side f.side.inner) f.side.ended f.side.stopped
         f.side.was f.side.told f.side.session.seen.log };
 
-    ghost past = { λ f client s p. IsHooked
+    ghost past = { λ f client s p. HookedPast
         (InnerPast f.side.stopped s (F.state client) (F.ahead client) f.side.inner)
         (IsAllowed (SV.allows f.app.now) (SomeAllow SV.Modules.allows)) s.head.method
         (seen_by f.side.session.seen f.side.inner.session) (SV.mark_of f.app.now f.side.ctx)
         f.side.first f.side.of_head f.side.at_first f.side.ended false f.side.refused f.side.stood
-        f.side.stopped p };
+        f.side.stopped f.side.told f.side.inner.told p };
 
     ghost blames = { λ f client s p e. BlamesOver
         (InnerPast f.side.stopped s (F.state client) (F.ahead client) f.side.inner)
@@ -225,7 +320,15 @@ impl<'a, SV: ProxyHttp, F: Front> Down<F> for Hooked<'a, SV> {
     ghost start = { F.start };
 
     // Hooks may change the head, and not that there is one.
-    ghost head = { λ f. stood_head (is_lost f.side.stopped) f.side.inner.session };
+    ghost Kept = { Stays SV };
+
+    ghost kept = { λ f. record {
+      app = f.app.now;
+      first = f.side.first;
+      at_first = f.side.at_first;
+      of_head = f.side.of_head;
+      head = stood_head (is_lost f.side.stopped) f.side.inner.session;
+    } };
 
     fn may_read(&self) -> bool {
         !(Down::<F>::body_done(self) && self.side.inner.is_answered())

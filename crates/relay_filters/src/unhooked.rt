@@ -165,7 +165,7 @@ impl<M, C> Unhooked<M, C> {
     }
 
     /// Whether memory was wanted in a call of a hook: the client's session may be anything then.
-    pub(crate) fn is_lost(&self) -> bool
+    pub fn is_lost(&self) -> bool
         ensures { result ≡ is_lost self.now.stopped }
     {
         is_lost(self.stopped)

@@ -1,7 +1,7 @@
 -- What fails an exchange behind filters has its cause in what passed.
 --
 --   fails_here   from SoFar and the reason of an error: FailsWith
-use Rattle.std.proofs.Common.{◌≡◌, ℕ, Bool, true, false, ◌⊎◌, List, [], ◌∷◌, ◌++◌, length, refl, sym, ap, subst, ◌∙◌, append-nil, append_assoc, arith, inl, inr, Option, Some, None}
+use Rattle.std.proofs.Common.{◌≡◌, ℕ, Bool, true, false, ◌⊎◌, List, [], ◌∷◌, ◌++◌, length, refl, sym, ap, subst, ◌∙◌, append-nil, append_assoc, arith, inl, inr, true≢false, Option, Some, None}
 use Rattle.std.specs.List.{list_any}
 use Rattle.relay_tasks.specs.declared.error.Error.{Error}
 use Rattle.relay_tasks.specs.declared.error.Fail.{Fail}
@@ -26,7 +26,7 @@ use Rattle.relay_core.specs.declared.duplex.Duplex.{Duplex}
 use Rattle.relay_hooks.specs.Standing.{Standing}
 use Rattle.relay_sides.specs.Client.{AllPass, ClientBlames, ClientRefuses, CannotEnd, Counts, CountsRead, IsUnanswered}
 use Rattle.relay_sides.specs.Client as client
-use Rattle.relay_sides.specs.Filtered.{is_head_request}
+use Rattle.relay_sides.specs.Filtered.{is_head_request, stops_for_error}
 use Rattle.relay_sides.proofs.ClientTasks.{plain-append}
 use Rattle.relay_filters.specs.Chain.{Refuses}
 use Rattle.relay_filters.specs.Hooked.{RefusesOver, inside}
@@ -45,10 +45,10 @@ use Rattle.relay_hooked.proofs.FinishLemmas.{over_made}
 use Rattle.relay_hooked.proofs.HalfLemmas.{half_with, hooked_half, own_blames, own_calls}
 use Rattle.relay_hooked.proofs.OrderLemmas.{attempt_by, ends_made, order_by}
 
--- a side that stopped has not gone on
-none_stopped : {A : Type 0} (stopped : Option Fail) (why : Fail) → stopped ≡ None
-    → stopped ≡ Some why → A
-none_stopped stopped why none is = let both = sym none ∙ is in absurd (cc)
+-- no filter stopped a side for an error where that is said
+none_stopped : {A : Type 0} (stopped : Option Fail) (e : Error) → stops_for_error stopped ≡ false
+    → stopped ≡ Some (fail.Error e) → A
+none_stopped stopped e none is = absurd (true≢false (sym (ap stops_for_error is) ∙ none))
 
 -- ---- what the client's side answers for
 
@@ -92,6 +92,18 @@ module _ {L : Type 0} (state : L → LinkState) (start_at : L → LinkStart)
     (so_far : GoesSoFar state start_at allows link ahead s b up duplex p q)
     (tells : TellsAlone b e)
   where
+    -- the client's side told none, or this one alone, and no filter stopped the side over it
+    inside_tells : (b.side.told.errors ≡ 0)
+        ⊎ ((b.side.told.errors ≡ 1) × (b.side.told.last ≡ Some e)
+        × (stops_for_error b.stopped ≡ false))
+    inside_tells = elim tells [
+      | inl none ↦ inl ((so_far.down.quiet.none none).0)
+      | inr one ↦ elim (so_far.down.quiet.one one.0) [
+        | inl none ↦ inl none
+        | inr alone ↦ inr (alone.0, alone.1 ∙ one.1, alone.2)
+      ]
+    ]
+
     -- it failed with the error, for a cause
     abbrev Fails : Type 0
     Fails = FailsWith (filtering b) s (passed_by p q) link (state up.client.link)
@@ -103,18 +115,18 @@ module _ {L : Type 0} (state : L → LinkState) (start_at : L → LinkStart)
         → Holds b.side.session.writing
         ((causes.order_of why).queued ++ (causes.order_of why).closing) p.written → Fails
     fails_as why holds =
-        let c = so_far.down.holds.passed.client in
+        let c = so_far.down.passed.holds.passed.client in
         record {
           why = why;
-          answers = answers_own s (inside p so_far.down.came so_far.down.queued) link ahead
-              b.side.session c;
+          answers = answers_own s (inside p so_far.down.passed.came so_far.down.passed.queued)
+              link ahead b.side.session c;
           holds = holds;
           broken = c.broken;
         }
 
     -- as it holds the tasks that its side names
-    held : Holds b.side.session.writing (so_far.down.queued ++ p.closing) p.written
-    held = so_far.down.holds.passed.client.response
+    held : Holds b.side.session.writing (so_far.down.passed.queued ++ p.closing) p.written
+    held = so_far.down.passed.holds.passed.client.response
 
     -- the client's half
     abbrev half : HookedHalf (filtering b) s link b.ended b.side.done p
@@ -122,31 +134,32 @@ module _ {L : Type 0} (state : L → LinkState) (start_at : L → LinkStart)
 
     -- the order, by the first refusal
     abbrev in_order : (refused : Option Error)
-        → first_refusal (request_of s.head) place.NoHead (so_far.down.queued ++ p.closing) ≡ refused
+        → first_refusal (request_of s.head) place.NoHead
+        (so_far.down.passed.queued ++ p.closing) ≡ refused
         → IsInOrderWith refused (filtering b) s (passed_by p q) (state up.client.link).ended
     in_order refused passes =
         order_by state start_at allows link ahead s b up duplex p q so_far half refused passes
 
     -- none of the tasks that were queued is refused, or the first that is is so with the error
-    queued_by : AllPass s (so_far.down.queued ++ p.closing)
-        ⊎ (first_refusal (request_of s.head) place.NoHead (so_far.down.queued ++ p.closing)
+    queued_by : AllPass s (so_far.down.passed.queued ++ p.closing)
+        ⊎ (first_refusal (request_of s.head) place.NoHead (so_far.down.passed.queued ++ p.closing)
         ≡ Some e)
-    queued_by = elim tells [
-      | inl none ↦ inl (so_far.down.holds.tasks.none none)
-      | inr one ↦ elim (so_far.down.holds.tasks.one one.0) [
+    queued_by = elim inside_tells [
+      | inl none ↦ inl (so_far.down.passed.holds.tasks.none none)
+      | inr one ↦ elim (so_far.down.passed.holds.tasks.one one.0) [
         | inl pass ↦ inl pass
         | inr refused ↦ inr (refused.2 ∙ (sym refused.1 ∙ one.1))
       ]
     ]
 
     -- so none is where the error is none of the writer's
-    none_refused : (IsWriters e → ⊥) → AllPass s (so_far.down.queued ++ p.closing)
+    none_refused : (IsWriters e → ⊥) → AllPass s (so_far.down.passed.queued ++ p.closing)
     none_refused apart = elim queued_by [
       | inl pass ↦ pass
       | inr refused ↦ absurd (apart (refused_is (request_of s.head) place.NoHead
-          (so_far.down.queued ++ p.closing) e
-          (plain-append so_far.down.queued p.closing so_far.down.holds.passed.plain
-          so_far.down.holds.passed.plain_end) refused))
+          (so_far.down.passed.queued ++ p.closing) e
+          (plain-append so_far.down.passed.queued p.closing so_far.down.passed.holds.passed.plain
+          so_far.down.passed.holds.passed.plain_end) refused))
     ]
 
     -- the tasks with which the client's side holds leave the response where its session stands
@@ -164,10 +177,10 @@ module _ {L : Type 0} (state : L → LinkState) (start_at : L → LinkStart)
     same_place : (came queued : List HttpTask)
         → DownHolds link ahead b.side s (inside p came queued)
         → (wire (request_of s.head) place.NoHead (queued ++ p.closing)).place
-        ≡ (wire (request_of s.head) place.NoHead (so_far.down.queued ++ p.closing)).place
+        ≡ (wire (request_of s.head) place.NoHead (so_far.down.passed.queued ++ p.closing)).place
     same_place came queued holds =
         place_at came queued holds
-        ∙ sym (place_at so_far.down.came so_far.down.queued so_far.down.holds)
+        ∙ sym (place_at so_far.down.passed.came so_far.down.passed.queued so_far.down.passed.holds)
 
     -- the client's side answers for the error
     fails_client : (came queued : List HttpTask)
@@ -177,7 +190,7 @@ module _ {L : Type 0} (state : L → LinkState) (start_at : L → LinkStart)
         let passes = none_refused (client_apart s (inside p came queued) link e blames) in
         fails_as
         (FailsFor.by_client (in_order None passes)
-        (blames_moved s p came half.pieces queued so_far.down.queued link
+        (blames_moved s p came half.pieces queued so_far.down.passed.queued link
         (λ unanswered.
         subst (λ (at : Place). is_over at ≡ false) (same_place came queued holds) unanswered) e
         blames)) held
@@ -185,17 +198,17 @@ module _ {L : Type 0} (state : L → LinkState) (start_at : L → LinkStart)
     -- a filter stopped the side, or the check behind one did
     fails_stopped : b.stopped ≡ Some (fail.Error e) → Fails
     fails_stopped is =
-        let passes : AllPass s (so_far.down.queued ++ p.closing) = elim tells [
-          | inl none ↦ so_far.down.holds.tasks.none none
-          | inr one ↦ none_stopped b.stopped (fail.Error e) one.2 is
+        let passes : AllPass s (so_far.down.passed.queued ++ p.closing) = elim inside_tells [
+          | inl none ↦ so_far.down.passed.holds.tasks.none none
+          | inr one ↦ none_stopped b.stopped e one.2 is
         ] in
         fails_as
         (FailsFor.by_filter (in_order None passes) is
         (subst (λ (es : List LogEntry). Refuses (is_head_request s.head.method) e es)
-        (own_calls b.first so_far.down.before so_far.down.own b.seen.log so_far.down.parts
-        so_far.down.began)
-        (subst (λ (of_head : Bool). Refuses of_head e so_far.down.own) so_far.down.is_of_head
-        (so_far.down.told e is)))) held
+        (own_calls b.first so_far.down.passed.before so_far.down.passed.own b.seen.log
+        so_far.down.passed.parts so_far.down.passed.began)
+        (subst (λ (of_head : Bool). Refuses of_head e so_far.down.passed.own)
+        so_far.down.passed.is_of_head (so_far.down.passed.told e is)))) held
 
     -- the peer's side answers for the error
     fails_given : PeerSideBlames state start_at s up q e → Fails
@@ -265,8 +278,8 @@ module _ {L : Type 0} (state : L → LinkState) (start_at : L → LinkStart)
             (ap (λ (l : List HttpTask). first_refusal (request_of s.head) place.NoHead l)
             (none_behind unasked queued) ∙ passes)) b.stand left made unasked
             (record { rest = rest; joined = append_assoc p.batched left rest ∙ sym read })
-            (subst (λ (of_head : Bool). WasMade of_head b.stand left made) so_far.down.is_of_head
-            made_so)
+            (subst (λ (of_head : Bool). WasMade of_head b.stand left made)
+            so_far.down.passed.is_of_head made_so)
             (ap (λ (l : List HttpTask).
             first_refusal (request_of s.head) place.NoHead (l ++ made)) is_half
             ∙ first_refusal-append (request_of s.head) place.NoHead queued made
@@ -286,13 +299,13 @@ module _ {L : Type 0} (state : L → LinkState) (start_at : L → LinkStart)
             fails_client came queued holds
             (client.ClientBlames.link_failed fault is rose.0 (inl rose.1))
         fails_made none (client.ClientRefuses.is_cut front at unasked is refused passes) =
-            fails_cut front at unasked is (elim tells [
+            fails_cut front at unasked is (elim inside_tells [
               | inl quiet ↦ front_pass (request_of s.head) front (at ∷ [])
                   (subst (λ (l : List HttpTask). AllPass s l) is (told_none quiet))
               | inr one ↦ passes one.0
             ]) refused
         fails_made none (client.ClientRefuses.is_unfit unasked refused passes) =
-            fails_batch unasked (elim tells [
+            fails_batch unasked (elim inside_tells [
               | inl quiet ↦ told_none quiet
               | inr one ↦ passes one.0
             ]) refused
@@ -320,8 +333,9 @@ module _ {L : Type 0} (state : L → LinkState) (start_at : L → LinkStart)
         → (list_any is_end p.batched ≡ true) ⊎ (b.side.done ≡ true) → Fails
     fails_unended came queued holds cannot (inr done) =
         absurd (over_ends (request_of s.head)
-        (wire (request_of s.head) place.NoHead (so_far.down.queued ++ p.closing)).place e
-        (stays_over (request_of s.head) place.NoHead so_far.down.queued p.closing (half.over done))
+        (wire (request_of s.head) place.NoHead (so_far.down.passed.queued ++ p.closing)).place e
+        (stays_over (request_of s.head) place.NoHead so_far.down.passed.queued p.closing
+        (half.over done))
         (ap (λ (at : Place). refusal (request_of s.head) at task.Done)
         (sym (same_place came queued holds)) ∙ cannot.refused))
     fails_unended came queued holds cannot (inl ends) =
@@ -339,14 +353,17 @@ module _ {L : Type 0} (state : L → LinkState) (start_at : L → LinkStart)
         ]
       where
         -- where none of them is refused there is no final head: else the response is over
-        no_head : AllPass s (so_far.down.queued ++ p.closing) → list_any is_end p.batched ≡ true
+        no_head : AllPass s (so_far.down.passed.queued ++ p.closing)
+            → list_any is_end p.batched ≡ true
             → refusal (request_of s.head)
-            (wire (request_of s.head) place.NoHead (so_far.down.queued ++ p.closing)).place
+            (wire (request_of s.head) place.NoHead (so_far.down.passed.queued ++ p.closing)).place
             task.Done ≡ Some e
-            → has_head (wire (request_of s.head) place.NoHead so_far.down.queued).place ≡ false
+            → has_head (wire (request_of s.head) place.NoHead so_far.down.passed.queued).place
+            ≡ false
         no_head pass ends refused = elim (decide _) [
           | inl has ↦ absurd (over_ends (request_of s.head)
-              (wire (request_of s.head) place.NoHead (so_far.down.queued ++ p.closing)).place e
+              (wire (request_of s.head) place.NoHead
+              (so_far.down.passed.queued ++ p.closing)).place e
               (over_made state start_at allows link ahead s b up duplex p q so_far pass ends has)
               refused)
           | inr none ↦ none

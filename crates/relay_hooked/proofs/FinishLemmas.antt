@@ -128,7 +128,7 @@ module _ {L : Type 0} (state : L → LinkState) (start_at : L → LinkStart)
     (allows : Standing → LogEntry → Type 0) (link : LinkState) (ahead : List ℕ) (s : Origin)
     (b : Behind) (up : PeerSide L) (duplex : Duplex) (p : DownPast) (q : UpPast)
     (so_far : GoesSoFar state start_at allows link ahead s b up duplex p q)
-    (passes : AllPass s (so_far.down.queued ++ p.closing))
+    (passes : AllPass s (so_far.down.passed.queued ++ p.closing))
   where
     -- what passed is in order
     abbrev in_order : IsInOrder (filtering b) s (passed_by p q) (state up.client.link).ended
@@ -139,9 +139,10 @@ module _ {L : Type 0} (state : L → LinkState) (start_at : L → LinkStart)
     half = hooked_half allows link ahead s b p so_far.down
 
     -- what was written
-    abbrev text : IsWritten b.side.session.writing (so_far.down.queued ++ p.closing) p.written
-    text = text_written s (inside p so_far.down.came so_far.down.queued) link ahead b.side.session
-        so_far.down.holds.passed.client
+    abbrev text : IsWritten b.side.session.writing (so_far.down.passed.queued ++ p.closing)
+        p.written
+    text = text_written s (inside p so_far.down.passed.came so_far.down.passed.queued) link ahead
+        b.side.session so_far.down.passed.holds.passed.client
 
     -- the tasks that passed the filters are a front of those that were read
     front : IsFrontOf p.batched q.read
@@ -157,11 +158,11 @@ module _ {L : Type 0} (state : L → LinkState) (start_at : L → LinkStart)
 
     -- the text answers the request with its own head
     text_own : (wire b.side.session.writing.request place.NoHead
-        (so_far.down.queued ++ p.closing)).text ≡ (order.text_of in_order).text
+        (so_far.down.passed.queued ++ p.closing)).text ≡ (order.text_of in_order).text
     text_own =
-        ap (λ (r : Request). (wire r place.NoHead (so_far.down.queued ++ p.closing)).text)
-        (answers_own s (inside p so_far.down.came so_far.down.queued) link ahead b.side.session
-        so_far.down.holds.passed.client)
+        ap (λ (r : Request). (wire r place.NoHead (so_far.down.passed.queued ++ p.closing)).text)
+        (answers_own s (inside p so_far.down.passed.came so_far.down.passed.queued) link ahead
+        b.side.session so_far.down.passed.holds.passed.client)
 
     -- nothing waits, and no fault is kept: all was written
     written_all :
@@ -170,16 +171,16 @@ module _ {L : Type 0} (state : L → LinkState) (start_at : L → LinkStart)
     written_all none =
         let still = neither _ b.side.broken none in
         on (text.all (none_waits (pending b.side.session.writing.output) still.0))
-        (so_far.down.holds.passed.unbroken still.1) ∙ text_own
+        (so_far.down.passed.holds.passed.unbroken still.1) ∙ text_own
       where
         on : (p.written
             ≡ (wire b.side.session.writing.request place.NoHead
-            (so_far.down.queued ++ p.closing)).text)
+            (so_far.down.passed.queued ++ p.closing)).text)
             ⊎ ((fault : Fault) × (b.side.session.writing.output ≡ outgoing.Broken fault))
             → IsOpen b.side.session.writing.output
             → p.written
             ≡ (wire b.side.session.writing.request place.NoHead
-            (so_far.down.queued ++ p.closing)).text
+            (so_far.down.passed.queued ++ p.closing)).text
         on (inl all) is = all
         on (inr broken) is =
             absurd (open_is_whole b.side.session.writing.output is.0 broken.0 is.1 broken.1)
@@ -295,19 +296,19 @@ module _ {L : Type 0} (state : L → LinkState) (start_at : L → LinkStart)
 
     -- with an end among them, and a final head, what the filters made leaves the response over
     pub over_made : list_any is_end p.batched ≡ true
-        → has_head (wire (request_of s.head) place.NoHead so_far.down.queued).place ≡ true
+        → has_head (wire (request_of s.head) place.NoHead so_far.down.passed.queued).place ≡ true
         → is_over (order.text_of in_order).place ≡ true
     over_made ends has =
-        stays_over (request_of s.head) place.NoHead so_far.down.queued p.closing
-        (ends_over (request_of s.head) so_far.down.queued
+        stays_over (request_of s.head) place.NoHead so_far.down.passed.queued p.closing
+        (ends_over (request_of s.head) so_far.down.passed.queued
         (last_made (is_head_request s.head.method) b.stood (filtering b).calls
-        (TakesOn b.stopped b.refused) p.batched so_far.down.queued half.makes
+        (TakesOn b.stopped b.refused) p.batched so_far.down.passed.queued half.makes
         (last_in p.batched
         (front_last p.batched front.rest q.read front.joined tasks_are.ends_last)))
         (ends_made (filtering b) s link (state up.client.link) (start_at up.client.link) b.ended
         (hooked_state b) refl
         (attempt_so_far state start_at allows link ahead s b up duplex p q so_far) ∙ ends)
-        (front_pass (request_of s.head) so_far.down.queued p.closing passes) has)
+        (front_pass (request_of s.head) so_far.down.passed.queued p.closing passes) has)
 
     -- the response was relayed whole, where its end passed the filters
     abbrev relayed_of : Finishes (hooked_core duplex b up) p q → list_any is_end p.batched ≡ true
@@ -333,7 +334,7 @@ module _ {L : Type 0} (state : L → LinkState) (start_at : L → LinkStart)
     early_of finishes none = record {
       order = in_order;
       open_still = none;
-      over = stays_over (request_of s.head) place.NoHead so_far.down.queued p.closing
+      over = stays_over (request_of s.head) place.NoHead so_far.down.passed.queued p.closing
           (half.over (done_by finishes.ended));
       written = written_all finishes.written;
       request = sent_by duplex.send_error refl finishes;
@@ -373,7 +374,7 @@ module _ {L : Type 0} (state : L → LinkState) (start_at : L → LinkStart)
         (start_at up.client.link) in_order ahead (is_body_done b.side.session.reading)
         (keeps_link duplex up)
     leaves_of =
-        let c = so_far.down.holds.passed.client in
+        let c = so_far.down.passed.holds.passed.client in
         let done = is_body_done b.side.session.reading in
         record {
           ended = (
@@ -403,11 +404,12 @@ module _ {L : Type 0} (state : L → LinkState) (start_at : L → LinkStart)
     -- a request that had not ended before its first piece, and has, has an end among its pieces
     ends_put : b.at_first ≡ false → b.ended ≡ true → list_any is_end p.put ≡ true
     ends_put fresh ended =
-        let r = so_far.down.request refl in
+        let r = so_far.down.passed.request refl in
         ap (list_any is_end)
-        (r.left ∙ ap (λ (a : Bool). passed a (requests_in so_far.down.own)) fresh)
-        ∙ passed_ends (requests_in so_far.down.own)
-        ∙ sym (r.is_ended ∙ ap (λ (a : Bool). ended_by a (requests_in so_far.down.own)) fresh)
+        (r.left ∙ ap (λ (a : Bool). passed a (requests_in so_far.down.passed.own)) fresh)
+        ∙ passed_ends (requests_in so_far.down.passed.own)
+        ∙ sym (r.is_ended
+        ∙ ap (λ (a : Bool). ended_by a (requests_in so_far.down.passed.own)) fresh)
         ∙ ended
 
     -- a link that may serve another request is kept

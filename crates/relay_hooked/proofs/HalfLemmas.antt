@@ -155,6 +155,7 @@ module _
       read = body_same body_piece ∙ one_body c.body (is_body_done session.reading)
           ∙ sym (body_same came ∙ c.joined) ∙ r.read;
       all = r.all;
+      told = λ t. one_ends c.body (is_body_done session.reading) ∙ c.ended (r.told t);
       left = r.left;
       is_ended = r.is_ended;
     }
@@ -174,7 +175,7 @@ module _
     half_with came queued holds before own parts began makes =
         let inner = inside p came queued in
         let session = b.side.session in
-        let c = h.holds.passed.client in
+        let c = h.passed.holds.passed.client in
         let d = holds.passed.client in
         record {
           came = c.came;
@@ -183,20 +184,21 @@ module _
           tells = c.tells;
           framing = c.framing;
           len = c.len;
-          asks = own_request s (inside p h.came h.queued) link ahead session c;
-          pieces = body_piece s p h.came h.queued link ahead session c;
+          asks = own_request s (inside p h.passed.came h.passed.queued) link ahead session c;
+          pieces = body_piece s p h.passed.came h.passed.queued link ahead session c;
           are_pieces =
               pieces_said s
-              (inside p (body_piece s p h.came h.queued link ahead session c) h.queued) link ahead
-              session (with_one s p h.came h.queued link ahead session c)
+              (inside p (body_piece s p h.passed.came h.passed.queued link ahead session c)
+              h.passed.queued) link ahead session (with_one s p h.passed.came h.passed.queued link ahead session c)
               (one_last c.body (is_body_done session.reading));
           passed =
               subst (λ (es : List LogEntry).
               PassesRequest b.at_first b.ended (requests_in es) (b.stopped ≡ None)
-              (body_piece s p h.came h.queued link ahead session c) p.put)
-              (own_calls b.first h.before h.own b.seen.log h.parts h.began)
-              (passes_one s p h.came h.queued link ahead session c b.at_first b.ended
-              (requests_in h.own) (b.stopped ≡ None) p.put (h.request refl));
+              (body_piece s p h.passed.came h.passed.queued link ahead session c) p.put)
+              (own_calls b.first h.passed.before h.passed.own b.seen.log h.passed.parts
+              h.passed.began)
+              (passes_one s p h.passed.came h.passed.queued link ahead session c b.at_first b.ended
+              (requests_in h.passed.own) (b.stopped ≡ None) p.put (h.passed.request refl));
           queued = queued;
           makes =
               subst (λ (es : List LogEntry).
@@ -204,7 +206,7 @@ module _
               p.batched queued) (own_calls b.first before own b.seen.log parts began)
               (subst (λ (of_head : Bool).
               MakesOf of_head b.stood own (TakesOn b.stopped b.refused) p.batched queued)
-              h.is_of_head makes);
+              h.passed.is_of_head makes);
           plain = holds.passed.plain;
           plain_end = holds.passed.plain_end;
           over = λ is.
@@ -215,7 +217,9 @@ module _
 
     -- the half, by the tasks that it names
     abbrev pub hooked_half : HookedHalf (filtering b) s link b.ended b.side.done p
-    hooked_half = half_with h.came h.queued h.holds h.before h.own h.parts h.began h.response
+    hooked_half =
+        half_with h.passed.came h.passed.queued h.passed.holds h.passed.before h.passed.own
+        h.passed.parts h.passed.began h.passed.response
 
 -- ---- the upstream's half
 

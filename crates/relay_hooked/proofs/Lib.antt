@@ -6,3 +6,7 @@ pub mod PassedLemmas
 pub mod FinishLemmas
 pub mod FailLemmas
 pub mod NeutralLemmas
+pub mod StationLemmas
+pub mod SideLemmas
+pub mod TurnLemmas
+pub mod AppLemmas

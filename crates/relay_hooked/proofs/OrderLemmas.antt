@@ -141,7 +141,7 @@ module _ {L : Type 0} (state : L → LinkState) (start_at : L → LinkStart)
     pub told_so_far : AreTold state start_at s (passed_by p q) link (state up.client.link)
         (start_at up.client.link)
     told_so_far =
-        let c = so_far.down.holds.passed.client in
+        let c = so_far.down.passed.holds.passed.client in
         let u = so_far.up.peer in
         record {
           came = c.came;
@@ -164,6 +164,10 @@ module _ {L : Type 0} (state : L → LinkState) (start_at : L → LinkStart)
         (hooked_state b) refl (attempt_by half) refused passes
 
     -- so it is in order, where none of what the filters made is refused
-    abbrev pub order_so_far : AllPass s (so_far.down.queued ++ p.closing)
+    abbrev pub order_so_far : AllPass s (so_far.down.passed.queued ++ p.closing)
         → IsInOrder (filtering b) s (passed_by p q) (state up.client.link).ended
     order_so_far passes = order_by (hooked_half allows link ahead s b p so_far.down) None passes
+
+    -- none of it is refused where the side told no error
+    pub untold_passes : b.told.errors ≡ 0 → AllPass s (so_far.down.passed.queued ++ p.closing)
+    untold_passes none = so_far.down.passed.holds.tasks.none (so_far.down.quiet.none none).0

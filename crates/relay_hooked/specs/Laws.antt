@@ -9,7 +9,6 @@ use Rattle.relay_peer.specs.declared.peer_side.PeerSide.{PeerSide}
 use Rattle.relay_core.specs.Moves.{Finishes, HasReason, SoFar}
 use Rattle.relay_core.specs.Past.{Origin, DownPast, UpPast}
 use Rattle.relay_core.specs.declared.duplex.Duplex.{Duplex}
-use Rattle.relay_sides.specs.Client.{AllPass}
 use Rattle.relay_attempt.specs.Attempt.{IsAttempt}
 use Rattle.relay_attempt.specs.Exchange.{AreTold}
 use Rattle.relay_attempt.specs.Passed.{Passed}
@@ -45,15 +44,15 @@ module _ {L : Type 0} (state : L → LinkState) (start_at : L → LinkStart)
       → AreTold state start_at s (passed_by p q) link (state up.client.link)
       (start_at up.client.link)
 
-  -- what passed is in order, where the client's writer refuses nothing that the filters made
+  -- what passed is in order, where the side behind filters told no error
   abbrev pub IsInOrderSoFar : Type 0
   IsInOrderSoFar = (link : LinkState) (ahead : List ℕ) (s : Origin) (b : Behind)
       (up : PeerSide L) (duplex : Duplex) (p : DownPast) (q : UpPast)
-      → (h : GoesSoFar link ahead s b up duplex p q)
-      → AllPass s (h.down.queued ++ p.closing)
+      → GoesSoFar link ahead s b up duplex p q → b.told.errors ≡ 0
       → IsInOrder (filtering b) s (passed_by p q) (state up.client.link).ended
 
-  -- what failed with an error has its cause in what passed, where the client's side told no other
+  -- what failed with an error has its cause in what passed, where the side behind
+  -- filters told no other
   abbrev pub IsCaused : Type 0
   IsCaused = (link : LinkState) (ahead : List ℕ) (s : Origin) (b : Behind) (up : PeerSide L)
       (duplex : Duplex) (p : DownPast) (q : UpPast) (e : Error)
@@ -63,12 +62,13 @@ module _ {L : Type 0} (state : L → LinkState) (start_at : L → LinkStart)
       → FailsWith (filtering b) s (passed_by p q) link (state up.client.link)
       (start_at up.client.link) b.side.session e
 
-  -- what finished was relayed, or over towards the client early; and what that leaves. Where the
+  -- what finished was relayed, or over towards the client early, where the side behind filters told
+  -- no error; and what that leaves. Where the
   -- request had not ended before its first piece, a peer's link that may serve another is kept
   abbrev pub IsFinishing : Type 0
   IsFinishing = (link : LinkState) (ahead : List ℕ) (s : Origin) (b : Behind) (up : PeerSide L)
       (duplex : Duplex) (p : DownPast) (q : UpPast)
-      → (h : GoesSoFar link ahead s b up duplex p q) → AllPass s (h.down.queued ++ p.closing)
+      → GoesSoFar link ahead s b up duplex p q → b.told.errors ≡ 0
       → Finishes (hooked_core duplex b up) p q
       → ((r : IsRelayed (filtering b) s (passed_by p q) (state up.client.link)
       (start_at up.client.link))

@@ -4,3 +4,6 @@ pub mod Attempt
 pub mod Sides
 pub mod Laws
 pub mod Neutral
+pub mod Stations
+pub mod Head
+pub mod Exchange

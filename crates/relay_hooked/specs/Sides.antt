@@ -21,7 +21,7 @@ use Rattle.relay_peer.specs.Peer as peer
 use Rattle.relay_peer.specs.declared.peer_side.PeerSide.{PeerSide}
 use Rattle.relay_sides.specs.Client.{CannotEnd, ClientBlames, ClientRefuses}
 use Rattle.relay_sides.specs.declared.client_side.ClientSide.{ClientSide}
-use Rattle.relay_filters.specs.Hooked.{BlamesOver, IsHooked, RefusesOver, shown_done}
+use Rattle.relay_filters.specs.Hooked.{BlamesOver, HookedPast, RefusesOver, shown_done}
 use Rattle.relay_attempt.specs.Exchange.{DownHolds, down_state}
 use Rattle.relay_hooked.specs.Calls.{Filtering, calls_behind}
 
@@ -65,11 +65,12 @@ hooked_state b = record (down_state b.side) {
 
 module _ (allows : Standing → LogEntry → Type 0) (link : LinkState) (ahead : List ℕ) (s : Origin)
     (b : Behind) where
-  -- its past holds: that of the side over the session, and what the filters made of it
+  -- its past holds: that of the side over the session, what the filters made of it, and what its
+  -- errors say of those that the side over the session told
   abbrev pub HookedHolds : DownPast → Type 0
   HookedHolds p =
-      IsHooked (DownHolds link ahead b.side s) allows s.head.method b.seen b.mark b.first b.of_head
-      b.at_first b.ended false b.refused b.stood b.stopped p
+      HookedPast (DownHolds link ahead b.side s) allows s.head.method b.seen b.mark b.first
+      b.of_head b.at_first b.ended false b.refused b.stood b.stopped b.told b.side.told p
 
 module _ (link : LinkState) (ahead : List ℕ) (s : Origin) (b : Behind) where
   -- it answers for the error
@@ -90,11 +91,9 @@ module _ (link : LinkState) (ahead : List ℕ) (s : Origin) (b : Behind) where
       BlamesOver (DownHolds link ahead b.side s)
       (λ r why. ClientBlames s r link why ⊎ CannotEnd s r b.side.told why) b.stopped p e
 
--- the client's side told no error; or this one alone, and no filter stopped the side over it
+-- it told no error, or this one alone
 abbrev pub TellsAlone : Behind → Error → Type 0
-TellsAlone b e =
-    (b.side.told.errors ≡ 0)
-    ⊎ ((b.side.told.errors ≡ 1) × (b.side.told.last ≡ Some e) × (b.stopped ≡ None))
+TellsAlone b e = (b.told.errors ≡ 0) ⊎ ((b.told.errors ≡ 1) × (b.told.last ≡ Some e))
 
 module _ {L : Type 0} (state : L → LinkState) (start_at : L → LinkStart) (s : Origin)
     (up : PeerSide L) where

@@ -1,12 +1,16 @@
-//! What passed in an exchange behind an application's filters, as one order: laws over the pasts of
-//! both sides alone, which no turn proves.
+//! One exchange behind an application's filters, held between its turns; and what passed in it, as
+//! one order: laws over the pasts of both sides.
 #![tactic(auto)]
+
+mod exchange;
 
 ghost use Rattle.relay_calls.specs.Log.{IsAllowed};
 ghost use Rattle.relay_filters.specs.Response.{SomeAllow};
 ghost use Rattle.relay_hooked.specs.Neutral.{IsAsWithout};
+ghost use Rattle.relay_hooked.specs.Stations.{ComeInOrder};
 ghost use Rattle.relay_hooked.specs.Laws.{IsAttemptSoFar, IsCaused, IsFinishing, IsInOrderSoFar, IsToldSoFar};
 
+pub use exchange::{HookedExchange, Unbegun, begin, turn};
 use relay_hooks::ProxyHttp;
 use relay_links::ByteLink;
 
@@ -44,4 +48,11 @@ pub fn finish_relayed<SV: ProxyHttp, L: ByteLink>(app: &SV)
 /// An order behind filters that change nothing is one without filters.
 pub fn neutral_alike()
     ensures { IsAsWithout }
+{}
+
+/// The calls of a side behind filters come in the order of the calls of a request, from behind the
+/// head that was sent, or from anywhere messages are relayed, up to where relaying goes on, or to
+/// where the error may be told for which the side stopped.
+pub fn calls_in_order()
+    ensures { ComeInOrder }
 {}

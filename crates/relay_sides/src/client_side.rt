@@ -1,8 +1,9 @@
 //! The client's side of a duplex over its session: pieces of the request are read from the client,
 //! and the tasks of the response are queued for it (RFC 9112, sections 6, 7 and 9).
-ghost use Rattle.std.specs.Prelude.{◌≡◌, ◌&&◌, ◌||◌, ◌⊎◌, not, List, ℕ};
+ghost use Rattle.std.specs.Prelude.{◌≡◌, ◌&&◌, ◌||◌, ◌⊎◌, not, List, ℕ, Option};
 ghost use Rattle.relay_links.specs.Link.{LinkState};
 ghost use Rattle.relay_core.specs.Past.{Origin};
+ghost use Rattle.relay_tasks.specs.Head.{RequestHead};
 ghost use Rattle.relay_session.specs.Reading.{head_of};
 ghost use Rattle.relay_session.specs.Response.{is_over};
 ghost use Rattle.relay_session.specs.TaskWire.{ends_short};
@@ -202,7 +203,9 @@ impl<F: Front> Down<F> for ClientSide {
 
     ghost start = { F.start };
 
-    ghost head = { λ side. head_of side.session.reading };
+    ghost Kept = { Option RequestHead };
+
+    ghost kept = { λ side. head_of side.session.reading };
 
     fn may_read(&self) -> bool {
         !(self.session.is_body_done() && either(self.done, self.finished))

@@ -137,6 +137,59 @@ impl Filters for Cuts {
     }
 }
 
+/// What comes of it behind that application where an attempt puts again two bytes that were read
+/// before: what passes of them, what the two reads behind that give, and how many calls were
+/// entered.
+fn again<SV: ProxyHttp + Drop>(
+    app: SV,
+    alloc: Global,
+) -> Result<
+    (
+        Option<(usize, bool)>,
+        Option<(usize, bool)>,
+        Option<(usize, bool)>,
+        usize,
+    ),
+> {
+    let mut client = client(alloc)?;
+    let held = held(&app, alloc, true)?;
+    let inner = ClientSide::new(alloc, session(alloc, Framing::Length(4))?);
+    if !inner.session().has_head() {
+        return Err(Fail::OutOfMemory);
+    }
+    let first = Piece {
+        bytes: Some(Bytes::from_static(b"xy")),
+        upstream_end: false,
+        client_end: false,
+    };
+    let ctx = app.new_ctx();
+    let (mut side, passed) = Hooked::begin_again::<Client>(&app, held, ctx, inner, first, false);
+    let first = match passed {
+        Ok(piece) => given(&Took::Item(piece)),
+        Err(_) => None,
+    };
+    let second = read(&mut side, &mut client);
+    let third = read(&mut side, &mut client);
+    let calls = side.session().phase_log().len();
+    let (inner, held, ctx) = side.into_parts();
+    release(inner);
+    release(held);
+    release(ctx);
+    Ok((first, second, third, calls))
+}
+
+#[test]
+fn gathers_what_is_put_again_with_what_is_read(rt: HostRuntime) {
+    let wanted = Ok((Some((0, false)), Some((0, false)), Some((6, true)), 3));
+    assert!(rt; again(App::new(Gathers), rt.alloc()) == wanted);
+}
+
+#[test]
+fn ends_the_request_where_what_is_put_again_is_taken_away(rt: HostRuntime) {
+    let wanted = Ok((Some((0, true)), Some((0, false)), Some((0, false)), 3));
+    assert!(rt; again(App::new(Cuts), rt.alloc()) == wanted);
+}
+
 #[test]
 fn gathers_two_pieces_in_one(rt: HostRuntime) {
     let wanted = Ok((Some((0, false)), Some((4, true)), 2));

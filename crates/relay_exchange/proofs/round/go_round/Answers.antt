@@ -55,7 +55,7 @@ loop-turn-init g c =
           (told_on first at
           (core t.new.self (g.D.Down.state t.new.down) (g.U.Up.state t.new.up)) t.result
           t.ensures.exact),
-      t.ensures.head,
+      t.ensures.keeps,
     )
 
 -- a branch that cannot be taken is passed
@@ -143,7 +143,7 @@ loop-turn-preserved g c =
           (g.U.Up.state c.loop-turn.up))
           (core t.new.self (g.D.Down.state t.new.down) (g.U.Up.state t.new.up)) t.result
           t.ensures.exact) ∙ i.12,
-      t.ensures.head ∙ i.13,
+      t.ensures.keeps ∙ i.13,
     )
 
 -- all branches were passed: each that can be taken asks a silent link

@@ -37,4 +37,4 @@ invariant-loop-turn g l =
     × ((g.D.Down.state l.down).body_finished ≡ (g.D.Down.state l.fn.down).body_finished)
     × ((g.D.Down.state l.down).calls ≡ (g.D.Down.state l.fn.down).calls)
     × ((g.D.Down.state l.down).told.errors ≡ (g.D.Down.state l.fn.down).told.errors)
-    × (g.D.Down.head l.down ≡ g.D.Down.head l.fn.down)
+    × (g.D.Down.kept l.down ≡ g.D.Down.kept l.fn.down)

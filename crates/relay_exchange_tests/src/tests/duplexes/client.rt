@@ -134,7 +134,9 @@ impl Down<()> for Client {
 
     ghost start = { λ _. mute_start (record { ended = false; used = 0; reused = false }) };
 
-    ghost head = { λ side. None };
+    ghost Kept = { Unit {0} };
+
+    ghost kept = { λ _. tt };
 
     fn may_read(&self) -> bool {
         !(self.ended && self.finished)

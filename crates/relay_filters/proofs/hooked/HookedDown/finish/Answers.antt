@@ -1,20 +1,30 @@
 -- The end was asked for, or it was refused: no filter was called.
-use Rattle.std.proofs.Common.{refl, sym, ◌∙◌}
+use Rattle.std.proofs.Common.{ap, refl, sym, ◌∙◌}
+use Rattle.relay_core.specs.Down.{DownState}
 use Rattle.relay_filters.proofs.LentSide.{client_goes, past_of}
+use Rattle.relay_filters.proofs.QuietLemmas.{past_goes, quiet_by, quiet_failed}
 use Rattle.relay_filters.proofs.hooked.HookedDown.finish.Goals as goal
 
 pub returns-in-Ok-clause-goes : goal.returns-in-Ok-clause-goes
 returns-in-Ok-clause-goes g c = λ client s p h.
-    client_goes s _ _ _ _ c.args.self.now.side.inner _ _ _ _ c.args.self.now.side.session.seen _ _
-    _ _ _ _ _ c.args.self.now.side.stopped p _ p.put _ p.batched _ _ _ h
-    (sym c.is_lost.ensures ∙ c.if-is_lost.false) c.in-Ok.ensures.head refl refl
+    past_goes
+    (quiet_by _ _ c.args.self.now.side.told _ c.finish.new.self.told refl
+    (ap (λ (x : DownState). x.told) c.in-Ok.ensures.ends.exact) h.quiet) h.calls
+    (client_goes s _ _ _ _ c.args.self.now.side.inner _ _ _ _ c.args.self.now.side.session.seen _ _
+    _ _ _ _ _ c.args.self.now.side.stopped p _ p.put _ p.batched _ _ _ h.passed
+    (sym c.is_lost.ensures ∙ c.if-is_lost.false) c.in-Ok.ensures.kept refl refl
     refl refl refl (c.in-Ok.ensures.goes client s _ (past_of _ _ _ _
-    (sym c.is_lost.ensures ∙ c.if-is_lost.false) h.holds))
+    (sym c.is_lost.ensures ∙ c.if-is_lost.false) h.passed.holds)))
 
 pub returns-in-Err-clause-goes : goal.returns-in-Err-clause-goes
 returns-in-Err-clause-goes g c = λ client s p h.
-    client_goes s _ _ _ _ c.args.self.now.side.inner _ _ _ _ c.args.self.now.side.session.seen _ _
-    _ _ _ _ _ c.args.self.now.side.stopped p _ p.put _ p.batched _ _ _ h
-    (sym c.is_lost.ensures ∙ c.if-is_lost.false) c.in-Err.ensures.head refl refl
+    past_goes
+    (quiet_by _ _ c.failed-self-in-Err.result _ c.finish.new.self.told c.failed-self-in-Err.ensures
+    (ap (λ (x : DownState). x.told) c.in-Err.ensures.ends)
+    (quiet_failed c.in-Err.why c.args.self.now.side.stopped c.args.self.now.side.told
+    c.args.self.now.side.inner.told h.quiet)) h.calls
+    (client_goes s _ _ _ _ c.args.self.now.side.inner _ _ _ _ c.args.self.now.side.session.seen _ _
+    _ _ _ _ _ c.args.self.now.side.stopped p _ p.put _ p.batched _ _ _ h.passed
+    (sym c.is_lost.ensures ∙ c.if-is_lost.false) c.in-Err.ensures.kept refl refl
     refl refl refl (c.in-Err.ensures.goes client s _ (past_of _ _ _ _
-    (sym c.is_lost.ensures ∙ c.if-is_lost.false) h.holds))
+    (sym c.is_lost.ensures ∙ c.if-is_lost.false) h.passed.holds)))

@@ -1,24 +1,58 @@
 -- A piece was filtered or refused, by hooks that were lent the client's session; any other answer
 -- of the inner side calls no filter.
-use Rattle.std.proofs.Common.{[], IsSome, append-nil, refl, subst, sym}
+use Rattle.std.proofs.Common.{[], IsSome, Some, append-nil, ap, inr, refl, subst, sym, ◌∙◌}
+use Rattle.relay_core.specs.Down.{DownState}
 use Rattle.relay_session.specs.Reading.{head_of}
 use Rattle.relay_session.specs.declared.session.HttpSession.{HttpSession}
+use Rattle.relay_filters.specs.Hooked.{seen_by}
 use Rattle.relay_filters.proofs.LentSide.{client_goes, lent_reads, lent_stops, not_lost, past_of}
-use Rattle.relay_filters.proofs.StateLemmas.{gives_piece}
+use Rattle.relay_filters.proofs.QuietLemmas.{past_goes, quiet_alone, quiet_by, quiet_failed, quiet_paused, quiet_stops, told_given}
+use Rattle.relay_filters.proofs.SegmentLemmas.{segments_piece, segments_refused}
+use Rattle.relay_filters.proofs.SideLemmas.{fail_is}
+use Rattle.relay_filters.proofs.StateLemmas.{ended_behind, gives_piece}
 use Rattle.relay_filters.proofs.hooked.HookedDown.read_piece.Goals as goal
+
+-- a side that has stopped answers why
+pub returns-in-Some-clause-goes : goal.returns-in-Some-clause-goes
+returns-in-Some-clause-goes g c = λ s p h. record {
+  past = p;
+  stands = record {
+    passed = h.passed;
+    quiet = quiet_by _ _ c.failed-self.result _ _ c.failed-self.ensures refl
+        (quiet_alone c.in-Some.why c.args.self.now.side.stopped c.args.self.now.side.told
+        c.args.self.now.side.inner.told h.quiet);
+    calls = h.calls;
+  };
+  is_put = sym (append-nil p.put);
+  is_batched = refl;
+  is_closing = refl;
+  blamed = λ e told. inr (c.in-Some.is ∙ ap Some (fail_is c.in-Some.why e told));
+}
 
 -- the piece passed its filter
 pub returns-in-Ok-clause-goes : goal.returns-in-Ok-clause-goes
 returns-in-Ok-clause-goes g c =
     rw (c.either-self.ensures)
     (λ s p h.
-    lent_reads s _ _ _ _ c.args.self.now.side.inner c.read_piece.new.self c.pass_piece.new.inner _
+    past_goes
+    (quiet_by _ _ c.args.self.now.side.told c.args.self.now.side.inner.told
+    c.pass_piece.new.inner.told refl
+    (told_given c.args.self.now.side.inner c.read_piece.new.self c.pass_piece.new.inner
+    c.in-Item.piece c.in-Item.ensures.reads c.in-Ok.ensures.rest)
+    h.quiet)
+    (segments_piece _ _ _ _ _ _ _ _ _ _ _ _ _ p h.passed c.in-None.is h.calls
+    (seen_by c.pass_piece.new.session.seen c.pass_piece.new.inner.session) _
+    (seen_by c.args.self.now.side.session.seen c.read_piece.new.self.session) _ _ c.in-Item.piece
+    c.in-Ok.made refl c.in-Ok.ensures.filters)
+    (lent_reads s _ _ _ _ c.args.self.now.side.inner c.read_piece.new.self c.pass_piece.new.inner _
     _ _ _
     c.args.self.now.side.session.seen _ _ _ _ _ _ _ c.args.self.now.side.stopped p c.in-Item.piece
-    c.pass_piece.new.session.seen _ c.in-None.is h
-    c.in-Item.ensures.head c.in-Ok.ensures.rest
-    (c.in-Item.ensures.goes s _ (past_of _ _ _ _ (not_lost _ c.in-None.is) h.holds)) c.in-Ok.made
-    c.in-Ok.ensures.filters)
+    c.pass_piece.new.session.seen _ c.in-None.is h.passed
+    c.in-Item.ensures.kept c.in-Ok.ensures.rest
+    (ended_behind c.args.self.now.side.inner c.read_piece.new.self c.in-Item.piece
+    c.in-Item.ensures.reads)
+    (c.in-Item.ensures.goes s _ (past_of _ _ _ _ (not_lost _ c.in-None.is) h.passed.holds))
+    c.in-Ok.made c.in-Ok.ensures.filters))
 
 pub returns-in-Ok-clause-reads : goal.returns-in-Ok-clause-reads
 returns-in-Ok-clause-reads g c =
@@ -28,7 +62,7 @@ returns-in-Ok-clause-reads g c =
     c.args.self.now.side.stopped _ c.args.self.now.side.session.seen.log c.in-Item.piece
     c.in-Ok.made
     c.in-None.is c.in-Ok.ensures.rest
-    (rw c.in-Item.ensures.head
+    (rw c.in-Item.ensures.kept
     (subst (λ (x : HttpSession). IsSome (head_of x.reading)) c.session.ensures
     (c.has_head.ensures.0 c.if-not-has_head.false))) c.in-Item.ensures.reads
     c.in-Ok.ensures.filters c.in-Ok.ensures.called)
@@ -36,44 +70,74 @@ returns-in-Ok-clause-reads g c =
 -- the filter refused it, or memory was wanted
 pub returns-in-Err-clause-goes : goal.returns-in-Err-clause-goes
 returns-in-Err-clause-goes g c = λ s p h.
-    lent_stops s _ _ _ _ c.args.self.now.side.inner c.read_piece.new.self c.pass_piece.new.inner _
+    past_goes
+    (quiet_by _ _ c.failed-self-in-Err.result c.args.self.now.side.inner.told
+    c.pass_piece.new.inner.told c.failed-self-in-Err.ensures
+    (told_given c.args.self.now.side.inner c.read_piece.new.self c.pass_piece.new.inner
+    c.in-Item.piece c.in-Item.ensures.reads c.in-Err.ensures.rest)
+    (quiet_stops c.in-Err.why c.args.self.now.side.stopped c.args.self.now.side.told
+    c.args.self.now.side.inner.told h.quiet))
+    (segments_refused _ _ _ _ _ _ _ _ _ _ _ _ _ p h.passed c.in-None.is h.calls
+    (seen_by c.pass_piece.new.session.seen c.pass_piece.new.inner.session) _
+    (seen_by c.args.self.now.side.session.seen c.read_piece.new.self.session) _
+    c.args.self.now.side.ended c.in-Item.piece c.in-Err.why refl c.in-Err.ensures.filters)
+    (lent_stops s _ _ _ _ c.args.self.now.side.inner c.read_piece.new.self c.pass_piece.new.inner _
     _ _ _
     c.args.self.now.side.session.seen _ _ _ _ _ _ _ c.args.self.now.side.stopped p c.in-Item.piece
-    c.pass_piece.new.session.seen _ c.in-None.is h
-    c.in-Item.ensures.head c.in-Err.ensures.rest
-    (c.in-Item.ensures.goes s _ (past_of _ _ _ _ (not_lost _ c.in-None.is) h.holds)) c.in-Err.why
-    c.in-Err.ensures.filters
+    c.pass_piece.new.session.seen _ c.in-None.is h.passed
+    c.in-Item.ensures.kept c.in-Err.ensures.rest
+    (ended_behind c.args.self.now.side.inner c.read_piece.new.self c.in-Item.piece
+    c.in-Item.ensures.reads)
+    (c.in-Item.ensures.goes s _ (past_of _ _ _ _ (not_lost _ c.in-None.is) h.passed.holds))
+    c.in-Err.why c.in-Err.ensures.filters)
 
 -- the link gave bytes
 pub returns-in-More-clause-goes : goal.returns-in-More-clause-goes
 returns-in-More-clause-goes g c = λ s p h.
-    client_goes s _ _ _ _ c.args.self.now.side.inner c.read_piece.new.self _ _ _
+    past_goes
+    (quiet_by _ _ c.args.self.now.side.told _
+    c.read_piece.new.self.told refl
+    (ap (λ (x : DownState). x.told) c.in-More.ensures.reads)
+    h.quiet) h.calls
+    (client_goes s _ _ _ _ c.args.self.now.side.inner c.read_piece.new.self _ _ _
     c.args.self.now.side.session.seen
-    _ _ _ _ _ _ _ c.args.self.now.side.stopped p _ _ _ p.batched _ [] _ h (not_lost _ c.in-None.is)
-    c.in-More.ensures.head (append-nil h.came) (append-nil p.put) refl refl
-    (sym (append-nil p.closing))
-    (c.in-More.ensures.goes s _ (past_of _ _ _ _ (not_lost _ c.in-None.is) h.holds))
+    _ _ _ _ _ _ _ c.args.self.now.side.stopped p _ _ _ p.batched _ [] _ h.passed
+    (not_lost _ c.in-None.is) c.in-More.ensures.kept (append-nil h.passed.came)
+    (append-nil p.put) refl refl (sym (append-nil p.closing))
+    (c.in-More.ensures.goes s _ (past_of _ _ _ _ (not_lost _ c.in-None.is) h.passed.holds)))
 
 pub returns-in-More-clause-gives : goal.returns-in-More-clause-gives
 returns-in-More-clause-gives g c = λ s p h is.
-    c.in-More.ensures.gives s _ (past_of _ _ _ _ (not_lost _ c.in-None.is) h.holds) is
+    c.in-More.ensures.gives s _ (past_of _ _ _ _ (not_lost _ c.in-None.is) h.passed.holds) is
 
 -- the inner side has to wait
 pub returns-in-Waited-clause-goes : goal.returns-in-Waited-clause-goes
 returns-in-Waited-clause-goes g c = λ s p h.
-    client_goes s _ _ _ _ c.args.self.now.side.inner c.read_piece.new.self _ _ _
+    past_goes
+    (quiet_by _ _ c.paused-self.result _
+    c.read_piece.new.self.told c.paused-self.ensures
+    (ap (λ (x : DownState). x.told) c.in-Waited.ensures.reads)
+    (quiet_paused c.in-Waited.pause c.args.self.now.side.stopped
+    c.args.self.now.side.told c.args.self.now.side.inner.told h.quiet)) h.calls
+    (client_goes s _ _ _ _ c.args.self.now.side.inner c.read_piece.new.self _ _ _
     c.args.self.now.side.session.seen
-    _ _ _ _ _ _ _ c.args.self.now.side.stopped p _ _ _ p.batched _ [] _ h (not_lost _ c.in-None.is)
-    c.in-Waited.ensures.head (append-nil h.came) (append-nil p.put) refl refl
-    (sym (append-nil p.closing))
-    (c.in-Waited.ensures.goes s _ (past_of _ _ _ _ (not_lost _ c.in-None.is) h.holds))
+    _ _ _ _ _ _ _ c.args.self.now.side.stopped p _ _ _ p.batched _ [] _ h.passed
+    (not_lost _ c.in-None.is) c.in-Waited.ensures.kept (append-nil h.passed.came)
+    (append-nil p.put) refl refl (sym (append-nil p.closing))
+    (c.in-Waited.ensures.goes s _ (past_of _ _ _ _ (not_lost _ c.in-None.is) h.passed.holds)))
 
 -- the inner side failed
 pub returns-in-Failed-clause-goes : goal.returns-in-Failed-clause-goes
 returns-in-Failed-clause-goes g c = λ s p h.
-    client_goes s _ _ _ _ c.args.self.now.side.inner c.read_piece.new.self _ _ _
+    past_goes
+    (quiet_by _ _ c.failed-self-in-Failed.result _
+    c.read_piece.new.self.told c.failed-self-in-Failed.ensures
+    (ap (λ (x : DownState). x.told) c.in-Failed.ensures.reads)
+    (quiet_failed c.in-Failed.why c.args.self.now.side.stopped
+    c.args.self.now.side.told c.args.self.now.side.inner.told h.quiet)) h.calls
+    (client_goes s _ _ _ _ c.args.self.now.side.inner c.read_piece.new.self _ _ _
     c.args.self.now.side.session.seen
-    _ _ _ _ _ _ _ c.args.self.now.side.stopped p _ _ _ p.batched _ [] _ h (not_lost _ c.in-None.is)
-    c.in-Failed.ensures.head (append-nil h.came) (append-nil p.put) refl refl
-    (sym (append-nil p.closing))
-    (c.in-Failed.ensures.goes s _ (past_of _ _ _ _ (not_lost _ c.in-None.is) h.holds))
+    _ _ _ _ _ _ _ c.args.self.now.side.stopped p _ _ _ p.batched _ [] _ h.passed
+    (not_lost _ c.in-None.is) c.in-Failed.ensures.kept (append-nil h.passed.came)
+    (append-nil p.put) refl refl (sym (append-nil p.closing))
+    (c.in-Failed.ensures.goes s _ (past_of _ _ _ _ (not_lost _ c.in-None.is) h.passed.holds)))

@@ -1,15 +1,26 @@
 -- A batch passes its filters, which were lent the client's session, and the inner side takes it; or
 -- one of them refuses it.
-use Rattle.std.proofs.Common.{refl, sym}
+use Rattle.std.proofs.Common.{ap, refl, sym, ◌∙◌}
+use Rattle.relay_core.specs.Down.{DownState}
+use Rattle.relay_core.specs.Told.{failed}
+use Rattle.relay_sides.specs.declared.client_side.ClientSide.{ClientSide}
+use Rattle.relay_filters.specs.Hooked.{seen_by}
 use Rattle.relay_filters.proofs.LentSide.{lent_batch, lent_fails, lent_holds, lent_refused, takes_head, takes_on}
+use Rattle.relay_filters.proofs.QuietLemmas.{past_goes, past_refused, quiet_alone, quiet_by, quiet_failed, quiet_stops}
 use Rattle.relay_filters.proofs.SideLemmas.{alone_at_once, at_once, true_is}
+use Rattle.relay_filters.proofs.SegmentLemmas.{segments_batch, segments_stopped}
 use Rattle.relay_filters.proofs.StateLemmas.{fails_batch, queues_batch, refuses_batch}
 use Rattle.relay_filters.proofs.hooked.HookedDown.take_batch.Goals as goal
 
 -- before any filter was called
 pub returns-in-Some-clause-goes : goal.returns-in-Some-clause-goes
 returns-in-Some-clause-goes g c = λ client s p h.
-    at_once _ _ _ _ _ _ _ _ _ _ _ _ _ _ _ _ p c.args.tasks c.in-Some.why (sym c.in-Some.ensures) h
+    past_refused
+    (quiet_by _ _ c.failed-self.result _ _ c.failed-self.ensures refl
+    (quiet_alone c.in-Some.why c.args.self.now.side.stopped c.args.self.now.side.told
+    c.args.self.now.side.inner.told h.quiet)) h.calls
+    (at_once _ _ _ _ _ _ _ _ _ _ _ _ _ _ _ _ p c.args.tasks c.in-Some.why
+    (sym c.in-Some.ensures) h.passed)
 
 pub returns-in-Some-clause-takes : goal.returns-in-Some-clause-takes
 returns-in-Some-clause-takes g c =
@@ -24,11 +35,21 @@ returns-in-Some-clause-takes g c =
 -- a filter refused it
 pub returns-in-Err-clause-goes : goal.returns-in-Err-clause-goes
 returns-in-Err-clause-goes g c = λ client s p h.
-    lent_fails s _ _ c.args.self.now.side.inner c.pass_tasks.new.inner _ _
+    past_refused
+    (quiet_by _ _ c.failed-self-in-Err.result _ c.pass_tasks.new.inner.told
+    c.failed-self-in-Err.ensures (ap (λ (x : ClientSide). x.told) c.in-Err.ensures.rest)
+    (quiet_stops c.in-Err.why c.args.self.now.side.stopped c.args.self.now.side.told
+    c.args.self.now.side.inner.told h.quiet))
+    (segments_stopped _ _ _ _ _ _ _ _ _ _ _ _ _ p h.passed
+    (takes_on _ _ _ c.args.tasks (sym c.in-None.ensures)) h.calls
+    (seen_by c.pass_tasks.new.session.seen c.pass_tasks.new.inner.session)
+    (seen_by c.args.self.now.side.session.seen c.args.self.now.side.inner.session) _ _
+    c.args.tasks c.in-Err.why refl c.in-Err.ensures.filters)
+    (lent_fails s _ _ c.args.self.now.side.inner c.pass_tasks.new.inner _ _
     c.args.self.now.side.session.seen
     _ _ _ _ _ _ _ _ _ c.args.self.now.side.stopped p c.args.tasks
-    c.pass_tasks.new.session.seen _ (sym c.in-None.ensures) h c.in-Err.ensures.rest
-    _ c.in-Err.why c.in-Err.ensures.filters
+    c.pass_tasks.new.session.seen _ (sym c.in-None.ensures) h.passed c.in-Err.ensures.rest
+    _ c.in-Err.why c.in-Err.ensures.filters)
 
 pub returns-in-Err-clause-takes : goal.returns-in-Err-clause-takes
 returns-in-Err-clause-takes g c =
@@ -43,17 +64,26 @@ pub returns-in-Ok-take_batch-clause-goes : goal.returns-in-Ok-take_batch-clause-
 returns-in-Ok-take_batch-clause-goes g c =
     rw c.still_stood-self.ensures
     (λ client s p h.
-    lent_batch s _ _ c.args.self.now.side.inner c.pass_tasks.new.inner _ _
+    past_goes
+    (quiet_by _ _ c.args.self.now.side.told _ c.take_batch.new.self.told refl
+    (ap (λ (x : DownState). x.told) c.in-Ok-take_batch.ensures.takes.exact
+    ∙ ap (λ (x : ClientSide). x.told) c.in-Ok.ensures.rest) h.quiet)
+    (segments_batch _ _ _ _ _ _ _ _ _ _ _ _ _ p h.passed
+    (takes_on _ _ _ c.args.tasks (sym c.in-None.ensures)) h.calls
+    (seen_by c.pass_tasks.new.session.seen c.pass_tasks.new.inner.session)
+    (seen_by c.args.self.now.side.session.seen c.args.self.now.side.inner.session) _ _
+    c.args.tasks c.in-Ok.made refl c.in-Ok.ensures.filters)
+    (lent_batch s _ _ c.args.self.now.side.inner c.pass_tasks.new.inner _ _
     c.args.self.now.side.session.seen
     _ _ _ _ _ _ _ _ _ c.args.self.now.side.stopped p c.args.tasks
-    c.pass_tasks.new.session.seen _ (sym c.in-None.ensures) h c.in-Ok.ensures.rest
-    c.take_batch.new.self _ c.in-Ok.made c.in-Ok-take_batch.ensures.head c.in-Ok.ensures.filters
+    c.pass_tasks.new.session.seen _ (sym c.in-None.ensures) h.passed c.in-Ok.ensures.rest
+    c.take_batch.new.self _ c.in-Ok.made c.in-Ok-take_batch.ensures.kept c.in-Ok.ensures.filters
     (c.in-Ok-take_batch.ensures.goes client s _
     (lent_holds s _ _ c.args.self.now.side.inner c.pass_tasks.new.inner _ _
     c.args.self.now.side.session.seen
     _ _ _ _ _ _ _ _ _ c.args.self.now.side.stopped p c.args.tasks
-    c.pass_tasks.new.session.seen _ (sym c.in-None.ensures) h c.in-Ok.ensures.rest
-    c.in-Ok.made c.in-Ok.ensures.filters)))
+    c.pass_tasks.new.session.seen _ (sym c.in-None.ensures) h.passed c.in-Ok.ensures.rest
+    c.in-Ok.made c.in-Ok.ensures.filters))))
 
 pub returns-in-Ok-take_batch-clause-takes : goal.returns-in-Ok-take_batch-clause-takes
 returns-in-Ok-take_batch-clause-takes g c =
@@ -69,18 +99,30 @@ pub returns-in-Err-take_batch-clause-goes : goal.returns-in-Err-take_batch-claus
 returns-in-Err-take_batch-clause-goes g c =
     rw c.still_stood-self.ensures
     (λ client s p h.
-    lent_refused s _ _ c.args.self.now.side.inner c.pass_tasks.new.inner _ _
+    past_refused
+    (quiet_by _ _ c.failed-self-in-Err-take_batch.result _ c.take_batch.new.self.told
+    c.failed-self-in-Err-take_batch.ensures
+    (ap (λ (x : DownState). x.told) c.in-Err-take_batch.ensures.takes.exact
+    ∙ ap (λ (x : ClientSide). failed c.in-Err-take_batch.why x.told) c.in-Ok.ensures.rest)
+    (quiet_failed c.in-Err-take_batch.why c.args.self.now.side.stopped c.args.self.now.side.told
+    c.args.self.now.side.inner.told h.quiet))
+    (segments_batch _ _ _ _ _ _ _ _ _ _ _ _ _ p h.passed
+    (takes_on _ _ _ c.args.tasks (sym c.in-None.ensures)) h.calls
+    (seen_by c.pass_tasks.new.session.seen c.pass_tasks.new.inner.session)
+    (seen_by c.args.self.now.side.session.seen c.args.self.now.side.inner.session) _ _
+    c.args.tasks c.in-Ok.made refl c.in-Ok.ensures.filters)
+    (lent_refused s _ _ c.args.self.now.side.inner c.pass_tasks.new.inner _ _
     c.args.self.now.side.session.seen
     _ _ _ _ _ _ _ _ _ c.args.self.now.side.stopped p c.args.tasks
-    c.pass_tasks.new.session.seen _ (sym c.in-None.ensures) h c.in-Ok.ensures.rest
-    c.take_batch.new.self _ c.in-Ok.made c.in-Err-take_batch.why c.in-Err-take_batch.ensures.head
+    c.pass_tasks.new.session.seen _ (sym c.in-None.ensures) h.passed c.in-Ok.ensures.rest
+    c.take_batch.new.self _ c.in-Ok.made c.in-Err-take_batch.why c.in-Err-take_batch.ensures.kept
     c.in-Ok.ensures.failures c.in-Ok.ensures.filters
     (c.in-Err-take_batch.ensures.goes client s _
     (lent_holds s _ _ c.args.self.now.side.inner c.pass_tasks.new.inner _ _
     c.args.self.now.side.session.seen
     _ _ _ _ _ _ _ _ _ c.args.self.now.side.stopped p c.args.tasks
-    c.pass_tasks.new.session.seen _ (sym c.in-None.ensures) h c.in-Ok.ensures.rest
-    c.in-Ok.made c.in-Ok.ensures.filters)))
+    c.pass_tasks.new.session.seen _ (sym c.in-None.ensures) h.passed c.in-Ok.ensures.rest
+    c.in-Ok.made c.in-Ok.ensures.filters))))
 
 pub returns-in-Err-take_batch-clause-takes : goal.returns-in-Err-take_batch-clause-takes
 returns-in-Err-take_batch-clause-takes g c =

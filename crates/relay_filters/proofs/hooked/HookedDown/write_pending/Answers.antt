@@ -1,13 +1,19 @@
 -- One write of the inner side: no filter was called.
 use Rattle.std.proofs.Common.{[], refl, sym, append-nil, ◌∙◌}
 use Rattle.relay_filters.proofs.LentSide.{client_goes, past_of}
+use Rattle.relay_filters.proofs.QuietLemmas.{past_goes, quiet_by, quiet_written, told_written}
 use Rattle.relay_filters.proofs.hooked.HookedDown.write_pending.Goals as goal
 
 pub returns-clause-goes : goal.returns-clause-goes
 returns-clause-goes g c = λ s p h.
-    client_goes s _ _ _ _ c.args.self.now.side.inner _ _ _ _ c.args.self.now.side.session.seen _ _
-    _ _ _ _ _ c.args.self.now.side.stopped p _ p.put _ p.batched _ [] _ h
+    past_goes
+    (quiet_by _ _ c.written-self.result _ _ c.written-self.ensures
+    (told_written _ _ c.write_pending-put.result c.write_pending-put.ensures.writes)
+    (quiet_written c.write_pending-put.result c.args.self.now.side.stopped
+    c.args.self.now.side.told c.args.self.now.side.inner.told h.quiet)) h.calls
+    (client_goes s _ _ _ _ c.args.self.now.side.inner _ _ _ _ c.args.self.now.side.session.seen _ _
+    _ _ _ _ _ c.args.self.now.side.stopped p _ p.put _ p.batched _ [] _ h.passed
     (sym c.is_lost.ensures ∙ c.if-is_lost.false)
-    c.write_pending-put.ensures.head refl refl refl refl (sym (append-nil p.closing))
+    c.write_pending-put.ensures.kept refl refl refl refl (sym (append-nil p.closing))
     (c.write_pending-put.ensures.goes s _ (past_of _ _ _ _
-    (sym c.is_lost.ensures ∙ c.if-is_lost.false) h.holds))
+    (sym c.is_lost.ensures ∙ c.if-is_lost.false) h.passed.holds)))

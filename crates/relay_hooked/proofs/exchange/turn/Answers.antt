@@ -1,0 +1,115 @@
+-- A turn between both sides is one over all that passed, and the application is that of the side.
+use Rattle.std.proofs.Common.{◌≡◌, refl, ap, ◌∙◌}
+use Rattle.relay_tasks.specs.declared.log.LogEntry.{LogEntry}
+use Rattle.relay_hooks.specs.Standing.{Standing}
+use Rattle.relay_calls.specs.Log.{IsAllowed}
+use Rattle.relay_filters.specs.Hooked.{Stays}
+use Rattle.relay_filters.specs.Response.{SomeAllow}
+use Rattle.relay_hooked.specs.Head.{core_of}
+use Rattle.relay_hooked.proofs.AppLemmas.{asks_settled, from_settled, turns_by}
+use Rattle.relay_hooked.proofs.SideLemmas.{attempt_at}
+use Rattle.relay_hooked.proofs.TurnLemmas.{turned}
+use Rattle.relay_hooked.proofs.exchange.turn.Goals as goal
+
+-- a turn between both sides is one over all that passed
+pub returns-clause-goes : goal.returns-clause-goes
+returns-clause-goes g c =
+    rw c.without_app-left.ensures
+    (λ s p under.
+    let new = c.turn-went.new.self in
+    let law : g.row.SV.Denot → Standing → LogEntry → Type 0 = λ a.
+    IsAllowed (g.SV.ProxyHttp.allows a) (SomeAllow g.SV.Modules.HttpModule.allows) in
+    let was = c.with_app-held.result in
+    let same : was.down.app.now ≡ c.args.app.now = rw c.with_app-held.ensures refl in
+    let app : new.down.app.now ≡ c.args.app.now =
+    ap (λ (k : Stays g.row.SV.Denot). k.app) c.turn-went.ensures.keeps ∙ same in
+    let untold : was.down.side.told.errors ≡ 0 = rw c.with_app-held.ensures under.untold in
+    let went = c.turn-went.ensures.goes s under.down under.up
+    (rw c.with_app-held.ensures under.holds) in
+    let lost = rw c.without_app-left.ensures at c.settled-turn.ensures.lost in
+    let alive = rw c.without_app-left.ensures at c.settled-turn.ensures.alive in
+    turned g.L.ByteLink.state g.L.ByteLink.start (law c.args.app.now)
+    (g.SV.ProxyHttp.mark_of c.args.app.now) s (g.F.Front.state c.turn-went.new.client)
+    (g.F.Front.ahead c.turn-went.new.client)
+    (record {
+      exchange = record {
+        down = new.down.side;
+        up = new.up;
+        duplex = new.duplex;
+        stage = new.stage;
+      };
+    }) under.down under.up (core_of was.duplex was.down.side was.up) c.turn-went.result.step
+    c.settled-turn.result.step
+    c.turn-went.ensures.bodies
+    (turns_by g.L.ByteLink.state g.L.ByteLink.start law g.SV.ProxyHttp.mark_of new.down.app.now
+    c.args.app.now app s (g.F.Front.state c.turn-went.new.client)
+    (g.F.Front.ahead c.turn-went.new.client) new.down.side _ _ _ _ _ under.down under.up _ _
+    c.turn-went.result.step went) untold c.turn-went.ensures.errors lost alive)
+
+-- and what passed is an attempt
+pub returns-clause-attempt : goal.returns-clause-attempt
+returns-clause-attempt g c =
+    rw c.without_app-left.ensures
+    (λ s p under.
+    let new = c.turn-went.new.self in
+    let law : g.row.SV.Denot → Standing → LogEntry → Type 0 = λ a.
+    IsAllowed (g.SV.ProxyHttp.allows a) (SomeAllow g.SV.Modules.HttpModule.allows) in
+    let was = c.with_app-held.result in
+    let same : was.down.app.now ≡ c.args.app.now = rw c.with_app-held.ensures refl in
+    let app : new.down.app.now ≡ c.args.app.now =
+    ap (λ (k : Stays g.row.SV.Denot). k.app) c.turn-went.ensures.keeps ∙ same in
+    let went =
+    turns_by g.L.ByteLink.state g.L.ByteLink.start law g.SV.ProxyHttp.mark_of new.down.app.now
+    c.args.app.now app s (g.F.Front.state c.turn-went.new.client)
+    (g.F.Front.ahead c.turn-went.new.client) new.down.side _ _ _ _ _ under.down under.up _ _
+    c.turn-went.result.step
+    (c.turn-went.ensures.goes s under.down under.up (rw c.with_app-held.ensures under.holds)) in
+    attempt_at g.L.ByteLink.state g.L.ByteLink.start (law c.args.app.now)
+    (g.SV.ProxyHttp.mark_of c.args.app.now) s (g.F.Front.state c.turn-went.new.client)
+    (g.F.Front.ahead c.turn-went.new.client) new.down.side new.up new.duplex went.p went.q
+    went.so_far)
+
+-- it waits where a link answered so
+pub returns-clause-waits : goal.returns-clause-waits
+returns-clause-waits g c = λ is.
+    let own = from_settled c.settled-turn.result.step c.turn-went.result.step _
+    c.settled-turn.ensures.either refl is in
+    let waits = rw c.with_app-held.ensures at (c.turn-went.ensures.waits own) in
+    rw c.without_app-left.ensures waits
+
+-- and is silent where one is
+pub returns-clause-silent : goal.returns-clause-silent
+returns-clause-silent g c = λ is.
+    let own = from_settled c.settled-turn.result.step c.turn-went.result.step _
+    c.settled-turn.ensures.either refl is in
+    rw c.without_app-left.ensures (c.turn-went.ensures.silent own)
+
+pub returns-clause-quiet : goal.returns-clause-quiet
+returns-clause-quiet g c = λ is.
+    let own = from_settled c.settled-turn.result.step c.turn-went.result.step _
+    c.settled-turn.ensures.either refl is in
+    let quiet = rw c.with_app-held.ensures at (c.turn-went.ensures.quiet own) in
+    rw c.without_app-left.ensures
+    (record {
+      silent = quiet.silent;
+      client_same = quiet.client_same;
+      peer_same = quiet.upstream_same;
+    })
+
+-- how it asked them
+pub returns-clause-asks : goal.returns-clause-asks
+returns-clause-asks g c =
+    let asks = rw c.with_app-held.ensures at c.turn-went.ensures.asks in
+    rw c.without_app-left.ensures
+    (asks_settled c.settled-turn.result.step c.turn-went.result.step _ _ _ _
+    c.settled-turn.ensures.either asks)
+
+-- and what it moved between both sides it moved over their links
+pub returns-clause-moves : goal.returns-clause-moves
+returns-clause-moves g c = λ s p under is.
+    let own = from_settled c.settled-turn.result.step c.turn-went.result.step _
+    c.settled-turn.ensures.either refl is in
+    let moves = rw c.with_app-held.ensures at
+    (c.turn-went.ensures.moves s under.down under.up (rw c.with_app-held.ensures under.holds) own)
+    in
+    rw c.without_app-left.ensures (rw c.settled-turn.ensures.branch moves)

@@ -1,0 +1,366 @@
+//! One exchange between a client and an HTTP/1 link to a peer behind the filters of an application,
+//! which is held between turns without it (RFC 9112, sections 6, 7 and 9.3).
+ghost use Rattle.std.specs.declared.alloc.Global.{Global};
+ghost use Rattle.std.specs.Prelude.{◌≡◌, ◌↔◌, ◌^◌, ◌-◌, Bool, ℕ, List, [], None, Some, false, drop, length, min, IfOk, IfErr, IsOkUnless, true, ◌⊎◌};
+ghost use Rattle.relay_tasks.specs.Error.{IsMemoryOr};
+ghost use Rattle.relay_tasks.specs.Head.{RequestHead};
+ghost use Rattle.relay_links.specs.Link.{IsHandedOut};
+ghost use Rattle.relay_h1.specs.Framing.{request_framing};
+ghost use Rattle.relay_h1.specs.Verdict.{refused_from};
+ghost use Rattle.relay_core.specs.Asked.{WaitRose};
+ghost use Rattle.relay_core.specs.Causes.{says_failed};
+ghost use Rattle.relay_core.specs.Past.{Origin};
+ghost use Rattle.relay_core.specs.Piece.{put_of};
+ghost use Rattle.relay_session.specs.Reading.{head_of, is_body_done};
+ghost use Rattle.relay_sides.specs.Client.{BeginsBehind, put_again};
+ghost use Rattle.relay_sides.specs.Filtered.{is_head_request};
+ghost use Rattle.relay_calls.specs.Log.{IsAllowed};
+ghost use Rattle.relay_filters.specs.Delay.{delays_of};
+ghost use Rattle.relay_filters.specs.Hooked.{is_lost, stood_head};
+ghost use Rattle.relay_filters.specs.Response.{SomeAllow};
+ghost use Rattle.relay_attempt.specs.Attempt.{IsAttempt};
+ghost use Rattle.relay_attempt.specs.Passed.{Passed};
+ghost use Rattle.relay_hooked.specs.Attempt.{HookedHalf, PeerHalf};
+ghost use Rattle.relay_hooked.specs.Exchange.{Asks, HasMoved, IsSilent, IsUnderWay, MeetsSilence, Turns};
+ghost use Rattle.relay_hooked.specs.Head.{IsRefusedFor, behind, link_of, may_keep, side_state};
+ghost use Rattle.relay_hooked.specs.Sides.{filtering};
+
+use relay_core::{Piece, Step};
+use relay_exchange::{Exchange, Turn};
+use relay_filters::{Hooked, Unhooked};
+use relay_hooks::{ProxyHttp, Session};
+use relay_links::{ByteLink, Schedule};
+use relay_peer::PeerSide;
+use relay_session::{Front, HttpSession};
+use relay_sides::{ClientSide, is_head_request};
+use relay_tasks::{Context, ErrorSource, Fail, Pause, RequestHeader, Result};
+use std::alloc::Global;
+
+/// A request whose head was read, and its response, behind the filters of an application, over one
+/// link to a peer. It borrows nothing: each turn is given the application.
+#[derive(Drop)]
+pub struct HookedExchange<M, C, L> {
+    pub(crate) exchange: Exchange<Unhooked<M, C>, PeerSide<L>>,
+}
+
+/// An exchange that was not begun: all that it was to hold, and why.
+pub struct Unbegun<M, C, L> {
+    pub session: Session<M>,
+    pub ctx: C,
+    pub client: HttpSession,
+    pub link: L,
+    pub why: Fail,
+}
+
+/// An exchange for the client's request behind that application, over that link, which was just
+/// handed out. The calls of the application enter the log of `session`, in whose own client's
+/// place a stand-in is; `ctx` is its context. `head` is the head that is sent, which may differ
+/// from the client's in all: the request is framed as it says, and the response towards the
+/// client as the client's says. What the client's session has kept of the body is put before any
+/// turn, as one piece that passes no filter, and with it the end of a body that has ended.
+///
+/// So it is under way where nothing is put so: the body has not ended, and none of it was read.
+///
+/// `InvalidHTTPHeader` of the source `Internal`, about `BadFraming`: exactly where
+/// `request_framing` refuses the head. Then, and where memory is wanted, also for what was
+/// kept, all but the head comes back.
+pub fn begin<SV: ProxyHttp, L: ByteLink, F: Front>(
+    app: &SV,
+    alloc: Global,
+    session: Session<SV::Modules>,
+    ctx: SV::CTX,
+    client: HttpSession,
+    link: L,
+    head: RequestHeader,
+) -> std::result::Result<HookedExchange<SV::Modules, SV::CTX, L>, Unbegun<SV::Modules, SV::CTX, L>>
+    ensures begins { IfOk result (λ x. (front : F) (s : Origin) (came : List ℕ) (reused : Bool)
+        → head ≡ s.sent → s.asked ≡ false
+        → BeginsBehind s came (F.state front) (F.ahead front) client → put_again client ≡ []
+        → ((own : RequestHead) → head_of client.reading ≡ Some own
+        → is_head_request own.method ≡ is_head_request s.head.method)
+        → IsHandedOut (L.state link) (L.start link) reused → s.reused ≡ reused
+        → IsUnderWay L.state L.start
+        (IsAllowed (SV.allows app.now) (SomeAllow SV.Modules.allows)) (SV.mark_of app.now) s
+        (record { came = came; written = []; got = []; sent = [] }) (F.state front)
+        (F.ahead front) x) }
+    ensures client { IfOk result (λ x. x.exchange.down.inner.session ≡ client) }
+    ensures session { IfOk result (λ x. x.exchange.down.session ≡ session) }
+    ensures ctx { IfOk result (λ x. x.exchange.down.ctx ≡ ctx) }
+    ensures over { IfOk result (λ x. link_of x ≡ link) }
+    ensures first { IfOk result (λ x. x.exchange.down.first ≡ length session.seen.log) }
+    ensures at_first { IfOk result (λ x. x.exchange.down.at_first
+        ≡ is_body_done client.reading) }
+    ensures client_back { IfErr result (λ unbegun. unbegun.client ≡ client) }
+    ensures session_back { IfErr result (λ unbegun. unbegun.session ≡ session) }
+    ensures ctx_back { IfErr result (λ unbegun. unbegun.ctx ≡ ctx) }
+    ensures link_back { IfErr result (λ unbegun. unbegun.link ≡ link) }
+    ensures refused { IsRefusedFor result
+        (Fail.Error (refused_from ErrorSource.Internal Context.BadFraming))
+        ↔ (request_framing head ≡ None) }
+    ensures causes { IfErr result (λ unbegun.
+        IsMemoryOr (refused_from ErrorSource.Internal Context.BadFraming) unbegun.why) }
+{
+    let mut peer = PeerSide::new(alloc, link);
+    if let Err(why) = peer.write_request_header(head) {
+        return Err(Unbegun {
+            session,
+            ctx,
+            client,
+            link: peer.into_link(),
+            why,
+        });
+    }
+    let first = match first_piece(alloc, &client) {
+        Ok(first) => first,
+        Err(why) => {
+            return Err(Unbegun {
+                session,
+                ctx,
+                client,
+                link: peer.into_link(),
+                why,
+            });
+        }
+    };
+    let body_done = client.is_body_done();
+    let of_head = asks_head(&client);
+    let inner = ClientSide::new(alloc, client);
+    let hooked = Hooked::new::<F>(app, session, ctx, inner, body_done, of_head);
+    let down = hooked.suspend();
+    let exchange = Exchange::begin(alloc, down, body_done, peer, Some(first));
+    Ok(HookedExchange { exchange })
+}
+
+/// One turn behind that application, as in `Exchange::turn`: one write of the request's head, or
+/// one branch of the duplex. The application is that of all turns.
+///
+/// `Finished`: the response was written whole, and the request was sent whole, or the peer took
+/// no more of it, or it ended short; or the response was over towards the client before its end
+/// was given to the filters. `Failed` with an error says why one of both failed: nothing more is
+/// written or sent from then on. Where memory was wanted in a hook the turn is out of memory.
+/// After `Finished` and `Failed` no turn is to follow.
+pub fn turn<SV: ProxyHttp, L: ByteLink, F: Front, H: Schedule>(
+    under_way: HookedExchange<SV::Modules, SV::CTX, L>,
+    app: &SV,
+    client: &mut F,
+    schedule: &mut H,
+) -> (HookedExchange<SV::Modules, SV::CTX, L>, Turn)
+    ensures goes { (s : Origin) (p : Passed)
+        → IsUnderWay L.state L.start (IsAllowed (SV.allows app.now) (SomeAllow SV.Modules.allows))
+        (SV.mark_of app.now) s p (F.state client.old) (F.ahead client.old) under_way
+        → Turns L.state L.start (IsAllowed (SV.allows app.now) (SomeAllow SV.Modules.allows))
+        (SV.mark_of app.now) s (F.state client.new) (F.ahead client.new) result.0
+        result.1.step }
+    // What passed is an attempt: each side was given the front of what the other put.
+    ensures attempt { (s : Origin) (p : Passed)
+        → IsUnderWay L.state L.start (IsAllowed (SV.allows app.now) (SomeAllow SV.Modules.allows))
+        (SV.mark_of app.now) s p (F.state client.old) (F.ahead client.old) under_way
+        → IsAttempt (HookedHalf (filtering (behind (SV.mark_of app.now) result.0.exchange.down))
+        s (F.state client.new) result.0.exchange.down.ended result.0.exchange.down.inner.done)
+        (PeerHalf s (L.start (link_of result.0)) (L.state (link_of result.0)))
+        (side_state result.0.exchange.down) }
+    // It waits only where a link answered so in this turn.
+    ensures waits { result.1.step ≡ Step.Waited Pause.NotReady
+        → WaitRose (F.state client.old) (F.state client.new) (L.state (link_of under_way))
+        (L.state (link_of result.0)) }
+    ensures silent { result.1.step ≡ Step.Waited Pause.Silent
+        → IsSilent L.state (F.state client.new) result.0 }
+    // In silence all that can be done asks a link that is silent on it, and neither link
+    // changed.
+    ensures quiet { result.1.step ≡ Step.Waited Pause.Silent
+        → MeetsSilence L.state (F.state client.old) (F.state client.new) under_way result.0 }
+    // A turn asks one link once, or none. One that moved asked the link of its branch, or it
+    // put a task into a pipe, took some out of one, brought an end, or called the filter of
+    // requests.
+    ensures asks { Asks L.state result.1.step (F.state client.old) (F.state client.new) under_way
+        result.0 }
+    ensures moves { (s : Origin) (p : Passed)
+        → IsUnderWay L.state L.start (IsAllowed (SV.allows app.now) (SomeAllow SV.Modules.allows))
+        (SV.mark_of app.now) s p (F.state client.old) (F.ahead client.old) under_way
+        → result.1.step ≡ Step.Moved
+        → HasMoved L.state result.1.branch (F.state client.old) (F.state client.new) under_way
+        result.0 }
+    // A turn that does not fail leaves the count of the client's faults, and a client's session
+    // that no hook may have left as anything.
+    ensures calm { says_failed result.1.step ≡ false
+        → (F.state client.new).faults ≡ (F.state client.old).faults }
+    ensures alive { says_failed result.1.step ≡ false
+        → is_lost result.0.exchange.down.stopped ≡ false }
+    ensures client_start { F.start client.new ≡ F.start client.old }
+    ensures peer_start { L.start (link_of result.0) ≡ L.start (link_of under_way) }
+    // Nothing else takes the place of what it began with: so many calls stood in the log before
+    // its own, the request had ended before the first of them or not, and there is a head.
+    ensures first { result.0.exchange.down.first ≡ under_way.exchange.down.first }
+    ensures at_first { result.0.exchange.down.at_first ≡ under_way.exchange.down.at_first }
+    ensures head { stood_head (is_lost result.0.exchange.down.stopped) result.0.exchange.down.inner.session
+        ≡ stood_head (is_lost under_way.exchange.down.stopped) under_way.exchange.down.inner.session }
+{
+    let HookedExchange { exchange } = under_way;
+    let mut held = with_app(exchange, app);
+    let went = held.turn(client, schedule);
+    let left = without_app(held);
+    let turn = settled(&left, went);
+    (HookedExchange { exchange: left }, turn)
+}
+
+impl<M, C, L: ByteLink> HookedExchange<M, C, L> {
+    /// The session of the client's request, which hooks were shown. Where memory was wanted in one
+    /// it may be anything.
+    pub fn client_session(&self) -> &HttpSession
+        ensures { result.now ≡ self.now.exchange.down.inner.session }
+    {
+        self.exchange.down().inner().session()
+    }
+
+    /// Whether the link may be kept for a next request: not while the head is being sent, and then
+    /// where both the duplex and the peer's side say so.
+    pub fn may_keep(&self) -> bool
+        ensures { result ≡ may_keep self.now }
+    {
+        self.exchange.upstream_may_keep() && self.exchange.up().may_keep()
+    }
+}
+
+impl<M, C, L> HookedExchange<M, C, L> {
+    /// The session whose log has the calls. A stand-in is in the place of the client's session.
+    pub fn session(&self) -> &Session<M>
+        ensures { result.now ≡ self.now.exchange.down.session }
+    {
+        self.exchange.down().session()
+    }
+
+    /// Whether modules stood for each batch that passed its filters so far.
+    pub fn modules_stood(&self) -> bool
+        ensures { result ≡ self.now.exchange.down.stood }
+    {
+        self.exchange.down().modules_stood()
+    }
+
+    /// The link.
+    pub fn link(&self) -> &L
+        ensures { result.now ≡ link_of self.now }
+    {
+        self.exchange.up().link()
+    }
+
+    /// The session whose log has the calls, the context, the session of the client's request, and
+    /// the link.
+    pub fn into_parts(self) -> (Session<M>, C, HttpSession, L)
+        ensures session { result.0 ≡ self.exchange.down.session }
+        ensures ctx { result.1 ≡ self.exchange.down.ctx }
+        ensures client { result.2 ≡ self.exchange.down.inner.session }
+        ensures link { result.3 ≡ link_of self }
+    {
+        let HookedExchange { exchange } = self;
+        let (down, up) = exchange.into_parts();
+        let (inner, session, ctx) = down.into_parts();
+        (session, ctx, inner.into_session(), up.into_link())
+    }
+
+    /// The exchange without the delay in milliseconds that the filters of pieces asked for since it
+    /// was last taken, or since it began, and that delay, as `Unhooked::take_delay`.
+    pub fn take_delay(self) -> (HookedExchange<M, C, L>, u64)
+        ensures sum { result.1 ≡ min
+            (delays_of (drop self.exchange.down.counted self.exchange.down.session.seen.log))
+            (2 ^ 64 - 1) }
+        ensures counted { result.0 ≡ record self {
+          exchange = record self.exchange {
+            down = record self.exchange.down {
+              counted = length self.exchange.down.session.seen.log;
+            };
+          };
+        } }
+    {
+        let HookedExchange { exchange } = self;
+        let (exchange, mut down) = exchange.replace_down(());
+        let delay = down.take_delay();
+        let (exchange, ()) = exchange.replace_down(down);
+        (HookedExchange { exchange }, delay)
+    }
+}
+
+impl<M: Drop, C: Drop, L> HookedExchange<M, C, L> {
+    /// The link alone.
+    pub fn into_link(self) -> L
+        ensures { result ≡ link_of self }
+    {
+        let HookedExchange { exchange } = self;
+        exchange.into_up().into_link()
+    }
+}
+
+/// The exchange with that application, for a turn.
+fn with_app<'a, SV: ProxyHttp, L>(
+    exchange: Exchange<Unhooked<SV::Modules, SV::CTX>, PeerSide<L>>,
+    app: &'a SV,
+) -> Exchange<Hooked<'a, SV>, PeerSide<L>>
+    ensures { result ≡ record {
+      down = record { app = app.entry; side = exchange.down };
+      up = exchange.up;
+      duplex = exchange.duplex;
+      stage = exchange.stage;
+    } }
+{
+    let (bare, side) = exchange.replace_down(());
+    let (held, ()) = bare.replace_down(Hooked::resume(app, side));
+    held
+}
+
+/// The exchange without it, to be held until the next turn.
+fn without_app<'a, SV: ProxyHttp, L>(
+    exchange: Exchange<Hooked<'a, SV>, PeerSide<L>>,
+) -> Exchange<Unhooked<SV::Modules, SV::CTX>, PeerSide<L>>
+    ensures { result ≡ record {
+      down = exchange.entry.down.side;
+      up = exchange.entry.up;
+      duplex = exchange.entry.duplex;
+      stage = exchange.entry.stage;
+    } }
+{
+    let (bare, hooked) = exchange.replace_down(());
+    let (held, ()) = bare.replace_down(hooked.suspend());
+    held
+}
+
+/// What a turn came to that left this: where memory was wanted in a hook, that, whatever the duplex
+/// answered.
+fn settled<M, C, L>(left: &Exchange<Unhooked<M, C>, PeerSide<L>>, turn: Turn) -> Turn
+    ensures branch { result.branch ≡ turn.branch }
+    ensures lost { is_lost left.now.down.stopped ≡ true
+        → result.step ≡ Step.Failed Fail.OutOfMemory }
+    ensures alive { is_lost left.now.down.stopped ≡ false → result.step ≡ turn.step }
+    ensures either { (result.step ≡ turn.step) ⊎ (result.step ≡ Step.Failed Fail.OutOfMemory) }
+{
+    if left.down().is_lost() {
+        return Turn {
+            step: Step::Failed(Fail::OutOfMemory),
+            branch: turn.branch,
+        };
+    }
+    turn
+}
+
+/// Whether the request of that session is a HEAD, by the head that it has.
+fn asks_head(session: &HttpSession) -> bool
+    ensures { (head : RequestHead) → head_of session.now.reading ≡ Some head
+        → result ≡ is_head_request head.method }
+{
+    session.has_head() && is_head_request(session.req_header())
+}
+
+/// What is put of a body before more is read of it: what the session has kept of it, with the end,
+/// where the body has ended.
+///
+/// Fails out of memory alone.
+fn first_piece(alloc: Global, session: &HttpSession) -> Result<Piece>
+    ensures ok { IfOk result (λ piece. put_of false piece ≡ put_again session.now) }
+    ensures memory { IsOkUnless result Fail.OutOfMemory }
+{
+    let kept = session.get_retry_buffer(alloc)?;
+    let done = session.is_body_done();
+    Ok(Piece {
+        bytes: kept,
+        upstream_end: done,
+        client_end: done,
+    })
+}
