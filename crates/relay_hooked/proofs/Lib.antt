@@ -7,3 +7,4 @@ pub mod FinishLemmas
 pub mod FailLemmas
 pub mod NeutralLemmas
 pub mod StationLemmas
+pub mod CauseLemmas
