@@ -152,8 +152,8 @@ module _ (s : Origin) (link : LinkState) (ahead : List ℕ) (side lent : ClientS
         settled (Some why) false [] _ (error_of_fail why)
         (stops_at (λ q. Unit {0}) (λ q. InnerPast (Some why) s link ahead lent q × Same q)
         (λ q e. Unit {0}) app modules method (seen_by seen side.session) mark first oh false false
-        false false false true None (record p { put = [] }) piece why [] (seen_by seen' lent.session)
-        mark' refl untold refl refl ends f (again_puts (Some why) (fails_so why f)))
+        false false false true None (record p { put = [] }) piece why []
+        (seen_by seen' lent.session) mark' refl untold refl refl ends f (again_puts (Some why) (fails_so why f)))
 
     -- the call stands alone among the side's own
     abbrev first_calls : InSegments oh None (drop first seen.log)

@@ -1,6 +1,7 @@
 -- The request by its calls, with one call more behind.
 use Rattle.std.proofs.Common.{◌≡◌, ℕ, Bool, true, false, not, ◌&&◌, ◌||◌, ◌==◌, if◌then◌else◌, List, [], ◌∷◌, ◌++◌, Option, Some, None, is_some, is_none, unwrap_or, option_to_list, length, arith, eqb-true, refl, sym, ap, ◌∙◌, append-nil, append_assoc}
 use Rattle.std.specs.List.{list_any}
+use Rattle.std.proofs.lemmas.List.Elements.{All-push}
 use Rattle.std.proofs.lemmas.List.Folds.{list_any-append}
 use Rattle.relay_tasks.specs.Task.{is_end}
 use Rattle.relay_tasks.specs.declared.error.Error.{Error}
@@ -11,7 +12,7 @@ use Rattle.relay_tasks.specs.declared.task.HttpTask.{HttpTask}
 use Rattle.relay_tasks.specs.declared.task.HttpTask.TheVariants as task
 use Rattle.relay_core.specs.Piece.{is_empty, put_of}
 use Rattle.relay_core.specs.declared.piece.Piece.{Piece}
-use Rattle.relay_filters.specs.Request.{PassesRequest, body_of, bytes_in, bytes_of, end_in, ended_by, given_to, is_end_by, is_end_in, is_told_end, passed, passes, has_piece, piece_of, put_in_item, takes_away}
+use Rattle.relay_filters.specs.Request.{PassesRequest, PieceCall, body_of, bytes_in, bytes_of, end_in, ended_by, given_to, is_end_by, is_end_in, is_told_end, passed, passes, has_piece, piece_of, put_in_item, takes_away}
 
 -- ---- lists
 
@@ -89,6 +90,7 @@ pub same_request : (a ended : Bool) (es : List LogEntry) (on : Type 0)
     → PassesRequest a ended es on came put → PassesRequest a ended es on came' put'
 same_request a ended es on came came' put put' is is' r =
     record {
+      each = r.each;
       rest = r.rest;
       read = ap body_of is ∙ r.read;
       all = r.all;
@@ -164,7 +166,7 @@ fails_no_end e bad = by_error e.error (is_end_in (has_piece e.input) e.output) b
 -- a piece was filtered
 pub one_piece : (a ended end client_end u : Bool) (es : List LogEntry) (on : Type 0)
     (came came' put put' : List HttpTask) (piece : Piece) (left : Option (List ℕ)) (e : LogEntry)
-    → on → PassesRequest a ended es on came put → came' ≡ came ++ put_of u piece
+    → on → PassesRequest a ended es on came put → PieceCall e → came' ≡ came ++ put_of u piece
     → (end ≡ true → list_any is_end came' ≡ true)
     → put' ≡ put ++ put_of false (piece_of ended end client_end (is_some piece.bytes) left)
     → e.input ≡ item.Piece piece.bytes end → e.output ≡ item.Piece left end → e.error ≡ None
@@ -172,9 +174,10 @@ pub one_piece : (a ended end client_end u : Bool) (es : List LogEntry) (on : Typ
     (ended || (piece_of ended end client_end (is_some piece.bytes) left).upstream_end)
     (es ++ e ∷ []) on
     came' put'
-one_piece a ended end client_end u es on came came' put put' piece left e is_on r is ends is' was
-    became ok =
+one_piece a ended end client_end u es on came came' put put' piece left e is_on r call is ends is'
+    was became ok =
     record {
+      each = All-push PieceCall es e r.each call;
       rest = [];
       read = read_on u piece end came came' es e r.rest r.read (r.all is_on) is was;
       all = λ so. refl;
@@ -213,12 +216,13 @@ one_piece a ended end client_end u es on came came' put put' piece left e is_on 
 -- the filter refused a piece
 pub one_refused : (a ended end u : Bool) (es : List LogEntry) (on on' : Type 0)
     (came came' put put' : List HttpTask) (piece : Piece) (e : LogEntry)
-    → on → PassesRequest a ended es on came put → came' ≡ came ++ put_of u piece
+    → on → PassesRequest a ended es on came put → PieceCall e → came' ≡ came ++ put_of u piece
     → (end ≡ true → list_any is_end came' ≡ true) → put' ≡ put
     → e.input ≡ item.Piece piece.bytes end → is_some e.error ≡ true
     → PassesRequest a ended (es ++ e ∷ []) on' came' put'
-one_refused a ended end u es on on' came came' put put' piece e is_on r is ends is' was
-    bad = record {
+one_refused a ended end u es on on' came came' put put' piece e is_on r call is ends is'
+    was bad = record {
+      each = All-push PieceCall es e r.each call;
       rest = [];
       read = read_on u piece end came came' es e r.rest r.read (r.all is_on) is was;
       all = λ so. refl;
@@ -244,6 +248,7 @@ pub one_lost : (a ended u : Bool) (es : List LogEntry) (on on' : Type 0)
     → PassesRequest a ended es on came put → came' ≡ came ++ put_of u piece → put' ≡ put
     → PassesRequest a ended es on' came' put'
 one_lost a ended u es on on' came came' put put' piece off r is is' = record {
+  each = r.each;
   rest = r.rest ++ body_of (put_of u piece);
   read = ap body_of is ∙ body_append came (put_of u piece)
       ∙ ap (λ (b : List ℕ). b ++ body_of (put_of u piece)) r.read

@@ -1,6 +1,7 @@
 -- A side behind filters: how each answer of the inner side goes on, with the calls that it led to.
 use Rattle.std.proofs.Common.{◌≡◌, ℕ, ◌<◌, Bool, true, false, ◌||◌, ◌&&◌, List, [], ◌∷◌, ◌++◌, length, Option, Some, None, is_some, Ok, Err, arith, length-append, refl, sym, ap, subst, ◌∙◌, append-nil, append_assoc, inl, inr, true≢false, IsTrue, IsSome, option_map, unwrap_or}
 use Rattle.std.specs.List.{list_any}
+use Rattle.std.proofs.lemmas.List.Elements.{All-nil}
 use Rattle.relay_tasks.specs.declared.error.Error.{Error}
 use Rattle.relay_tasks.specs.declared.error.Fail.{Fail}
 use Rattle.relay_tasks.specs.declared.error.Fail.TheVariants as fail
@@ -28,7 +29,7 @@ use Rattle.relay_calls.proofs.CallLemmas.{CallsOf-walks}
 use Rattle.relay_calls.proofs.LogLemmas.{Views-same, Walk-append, modules_in-append, requests_in-append, responses_in-append}
 use Rattle.relay_sides.specs.Filtered.{is_head_request}
 use Rattle.relay_filters.specs.Chain.{AllPass, PassedModules, PassesModules, Refuses, by_hook, TaskChain}
-use Rattle.relay_filters.specs.Request.{Filtered, Filters, PassesRequest, is_last, piece_of}
+use Rattle.relay_filters.specs.Request.{Filtered, Filters, PassesRequest, PieceCall, is_last, piece_of}
 use Rattle.relay_filters.specs.Response as batches
 use Rattle.relay_filters.specs.Response.{Adds, AddsSome, BatchPasses, BatchStops, MakesOf, Outcome, PartsOf, Stage, WasMade}
 use Rattle.relay_filters.specs.Hooked.{BlamesOver, IsHooked, IsLogged, RefusesOver, TakesOn, by_filter, by_inner, failure_in_front, had_stopped, inside, refused_at_once}
@@ -468,7 +469,15 @@ reads_open inner inner' blames' app modules method seen mark first oh a ended u 
             piece.bytes end seen'
             mark' (only (item.Piece left end)) f.call))
             (one_piece a ended end piece.client_end u (requests_in h.own) Going h.came
-            g.past.put p.put (p.put ++ put_of u one) piece left e refl (h.request low) g.is_put
+            g.past.put p.put (p.put ++ put_of u one) piece left e refl (h.request low)
+            (record {
+              given = piece.bytes;
+              left = left;
+              end = end;
+              is_hook = refl;
+              was = refl;
+              became = refl;
+            }) g.is_put
             (λ is. ap (list_any is_end) g.is_put ∙ ends is)
             (ap (λ (b : Bool). p.put ++ put_of b one) low) refl refl refl);
         is_of_head = h.is_of_head;
@@ -570,8 +579,15 @@ stops_open inner inner' blames' app modules method seen mark first oh a ended u 
             mark' left f.call))
             (one_refused a ended end u (requests_in h.own) Going
             (Some (fail.Error error) ≡ None) h.came g.past.put p.put put piece e refl
-            (h.request (sym up ∙ plain)) g.is_put
-            (λ is. ap (list_any is_end) g.is_put ∙ ends is) same refl refl);
+            (h.request (sym up ∙ plain))
+            (record {
+              given = piece.bytes;
+              left = f.left;
+              end = end;
+              is_hook = refl;
+              was = refl;
+              became = refl;
+            }) g.is_put (λ is. ap (list_any is_end) g.is_put ∙ ends is) same refl refl);
         is_of_head = h.is_of_head;
         response =
             same_response oh stood (h.own ++ e ∷ []) (TakesOn (Some (fail.Error error)) rf)
@@ -687,6 +703,7 @@ request_same a ended own own' on on' came came' put put' is off same same' r =
     subst (λ (l : List LogEntry). PassesRequest a ended l on' came' put') (sym is)
     (same_request a ended (requests_in own) on' came came' put put' same same'
     (record {
+      each = r.each;
       rest = r.rest;
       read = r.read;
       all = λ o. r.all (off o);
@@ -1085,6 +1102,7 @@ begins holds allows method seen mark first oh ended u p len head none none' own 
     at = λ so. refl;
   };
   request = λ plain. record {
+    each = All-nil PieceCall;
     rest = [];
     read = refl;
     all = λ so. refl;

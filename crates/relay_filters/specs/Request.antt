@@ -1,6 +1,6 @@
 -- The request as its filter lets it pass, read off the log: what each call was given, and what went
 -- on of it.
-use Rattle.std.specs.Prelude.{◌≡◌, ℕ, Bool, true, false, ◌&&◌, ◌||◌, if◌then◌else◌, List, [], ◌∷◌, ◌++◌, Option, None, is_some, is_none, unwrap_or, Result, Ok, Err}
+use Rattle.std.specs.Prelude.{◌≡◌, ℕ, All, Bool, true, false, ◌&&◌, ◌||◌, if◌then◌else◌, List, [], ◌∷◌, ◌++◌, Option, None, is_some, is_none, unwrap_or, Result, Ok, Err}
 use Rattle.std.specs.List.{list_any}
 use Rattle.relay_tasks.specs.Task.{is_end}
 use Rattle.relay_tasks.specs.declared.error.Error.{Error}
@@ -71,6 +71,16 @@ end_in other = false
 abbrev pub is_told_end : LogEntry → Bool
 is_told_end e = end_in e.input
 
+-- the filter of requests was called with a piece, and left this of it; it is told the end of what
+-- it leaves as of what it is given
+pub record PieceCall (e : LogEntry) : Type 0 where
+  pub given : Option (List ℕ)
+  pub left : Option (List ℕ)
+  pub end : Bool
+  pub is_hook : e.hook ≡ hook.RequestBodyFilter
+  pub was : e.input ≡ item.Piece given end
+  pub became : e.output ≡ item.Piece left end
+
 -- the bytes that the calls were given, joined
 abbrev pub given_to : List LogEntry → List ℕ
 given_to [] = []
@@ -108,11 +118,12 @@ abbrev pub body_of : List HttpTask → List ℕ
 body_of [] = []
 body_of (task ∷ tasks) = bytes_of task ++ body_of tasks
 
--- the request as it came and as it passed by these calls: they were given what came, from its first
--- byte, and all of it while the side goes on, and are told the end only where an end came; what is
--- put is what they left, up to the first end
+-- the request as it came and as it passed by these calls, each with a piece: they were given what
+-- came, from its first byte, and all of it while the side goes on, and are told the end only where
+-- an end came; what is put is what they left, up to the first end
 pub record PassesRequest (at_first ended : Bool) (es : List LogEntry) (goes_on : Type 0)
     (came put : List HttpTask) : Type 0 where
+  pub each : All PieceCall es
   pub rest : List ℕ
   pub read : body_of came ≡ given_to es ++ rest
   pub all : goes_on → rest ≡ []

@@ -1,25 +1,14 @@
 -- The calls of a side in order: all those that one piece or one batch led to, behind those of the
 -- pieces and batches before it.
-use Rattle.std.specs.Prelude.{◌≡◌, ℕ, All, Bool, ◌⊎◌, List, [], ◌∷◌, ◌++◌, Option, Some, None}
+use Rattle.std.specs.Prelude.{◌≡◌, All, ◌⊎◌, Bool, List, [], ◌∷◌, ◌++◌, Option, Some, None}
 use Rattle.relay_tasks.specs.declared.error.Error.{Error}
 use Rattle.relay_tasks.specs.declared.error.Fail.{Fail}
 use Rattle.relay_tasks.specs.declared.error.Fail.TheVariants as fail
-use Rattle.relay_tasks.specs.declared.hook.Hook.TheVariants as hook
-use Rattle.relay_tasks.specs.declared.log.Item.TheVariants as item
 use Rattle.relay_tasks.specs.declared.log.LogEntry.{LogEntry}
 use Rattle.relay_tasks.specs.declared.task.HttpTask.{HttpTask}
 use Rattle.relay_filters.specs.Chain.{Refuses}
+use Rattle.relay_filters.specs.Request.{PieceCall}
 use Rattle.relay_filters.specs.Response.{BatchPasses, BatchStops}
-
--- the filter of requests was called with a piece, and left this of it; it is told the end of what
--- it leaves as of what it is given
-pub record PieceCall (e : LogEntry) : Type 0 where
-  pub given : Option (List ℕ)
-  pub left : Option (List ℕ)
-  pub end : Bool
-  pub is_hook : e.hook ≡ hook.RequestBodyFilter
-  pub was : e.input ≡ item.Piece given end
-  pub became : e.output ≡ item.Piece left end
 
 -- all calls of a piece, or of a batch, that passed
 pub data Segment (of_head : Bool) (es : List LogEntry) : Type 0 where

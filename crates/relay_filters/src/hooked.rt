@@ -132,10 +132,10 @@ impl<'a, SV: ProxyHttp> Hooked<'a, SV> {
         Hooked { app, side }
     }
 
-    /// The side of an attempt that puts again what was read of the body, as `new`, and what passes of
-    /// that: `first` is all that was read, as one piece, with the end of a body that has ended. It
-    /// passes the filter of requests by one call, before any piece that is read. What passes is put
-    /// first. An error of the filter stops the side before anything was put.
+    /// The side of an attempt that puts again what was read of the body, as `new`, and what passes
+    /// of that: `first` is all that was read, as one piece, with the end of a body that has ended.
+    /// It passes the filter of requests by one call, before any piece that is read. What passes is
+    /// put first. An error of the filter stops the side before anything was put.
     ///
     /// What passed is as inside, where that piece was put and nothing was taken yet.
     pub fn begin_again<F: Front>(

@@ -151,6 +151,7 @@ module _
     pub passes_one : (a ended : Bool) (es : List LogEntry) (on : Type 0) (put : List HttpTask)
         → PassesRequest a ended es on came put → PassesRequest a ended es on body_piece put
     passes_one a ended es on put r = record {
+      each = r.each;
       rest = r.rest;
       read = body_same body_piece ∙ one_body c.body (is_body_done session.reading)
           ∙ sym (body_same came ∙ c.joined) ∙ r.read;
@@ -189,7 +190,8 @@ module _
           are_pieces =
               pieces_said s
               (inside p (body_piece s p h.passed.came h.passed.queued link ahead session c)
-              h.passed.queued) link ahead session (with_one s p h.passed.came h.passed.queued link ahead session c)
+              h.passed.queued) link ahead session
+              (with_one s p h.passed.came h.passed.queued link ahead session c)
               (one_last c.body (is_body_done session.reading));
           passed =
               subst (λ (es : List LogEntry).

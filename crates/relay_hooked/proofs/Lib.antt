@@ -10,3 +10,4 @@ pub mod StationLemmas
 pub mod SideLemmas
 pub mod TurnLemmas
 pub mod AppLemmas
+pub mod CauseLemmas

@@ -1,5 +1,5 @@
 -- What each exchange behind filters keeps, whatever passed: laws over the pasts of both sides.
-use Rattle.std.specs.Prelude.{◌≡◌, ℕ, false, List, ◌++◌, ◌⊎◌}
+use Rattle.std.specs.Prelude.{◌≡◌, ℕ, false, List, ◌⊎◌}
 use Rattle.relay_tasks.specs.declared.error.Error.{Error}
 use Rattle.relay_tasks.specs.declared.log.LogEntry.{LogEntry}
 use Rattle.relay_links.specs.Link.{LinkState, LinkStart}

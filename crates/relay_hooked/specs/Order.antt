@@ -1,11 +1,14 @@
 -- What was sent to the peer and what was written to the client of an attempt behind filters, in
 -- terms of the bytes that passed and of the calls of the attempt (RFC 9110, section 15.2; RFC 9112,
 -- sections 3 to 8).
-use Rattle.std.specs.Prelude.{◌≡◌, ◌↔◌, IsTrue, ℕ, Bool, true, false, ◌⊎◌, List, [], ◌∷◌, ◌++◌, drop, Option, Some, None}
+use Rattle.std.specs.Prelude.{◌≡◌, ◌↔◌, IsTrue, ℕ, Bool, true, false, ◌⊎◌, ◌&&◌, List, [], ◌∷◌, ◌++◌, drop, Option, Some, None, is_none}
 use Rattle.std.specs.List.{list_any, concat}
 use Rattle.relay_tasks.specs.declared.error.Error.{Error}
 use Rattle.relay_tasks.specs.declared.error.Fail.TheVariants as fail
 use Rattle.relay_tasks.specs.declared.fault.Fault.{Fault}
+use Rattle.relay_tasks.specs.declared.log.Item.{Item}
+use Rattle.relay_tasks.specs.declared.log.Item.TheVariants as item
+use Rattle.relay_tasks.specs.declared.log.LogEntry.{LogEntry}
 use Rattle.relay_tasks.specs.declared.task.HttpTask.{HttpTask}
 use Rattle.relay_tasks.specs.declared.task.HttpTask.TheVariants as task
 use Rattle.relay_tasks.specs.Head.{ResponseHead}
@@ -36,7 +39,7 @@ use Rattle.relay_sides.specs.Client.{ClientBlames, FailsWrite}
 use Rattle.relay_sides.specs.Filtered.{is_head_request}
 use Rattle.relay_filters.specs.Chain.{Refuses}
 use Rattle.relay_filters.specs.Hooked.{TakesOn}
-use Rattle.relay_filters.specs.Request.{PassesRequest}
+use Rattle.relay_filters.specs.Request.{PassesRequest, has_piece, takes_away}
 use Rattle.relay_filters.specs.Response.{MakesOf, WasMade}
 use Rattle.relay_attempt.specs.Order.{ArePieces, Asks}
 use Rattle.relay_attempt.specs.Passed.{Passed, asked}
@@ -110,6 +113,22 @@ abbrev pub text_of : {refused : Option Error} {f : Filtering} {s : Origin} {p : 
 text_of {s = s} order = wire (request_of s.head) place.NoHead (order.queued ++ order.closing)
 
 -- ---- ends
+
+-- what was left of a piece takes it away
+abbrev pub is_taken : Bool → Item → Bool
+is_taken given (item.Piece left end) = takes_away given left
+is_taken given other = false
+
+-- the call took the piece away that it was given
+abbrev pub takes : LogEntry → Bool
+takes e = is_none e.error && is_taken (has_piece e.input) e.output
+
+-- an end of what the filter of requests left has its cause: the client's body has ended, or a call
+-- took a piece away
+abbrev pub EndsByCause : Type 0
+EndsByCause = (refused : Option Error) (f : Filtering) (s : Origin) (p : Passed) (closed : Bool)
+    → (order : IsInOrderWith refused f s p closed) → list_any is_end order.pieces ≡ true
+    → (list_any is_end order.came ≡ true) ⊎ (list_any takes (requests_in f.calls) ≡ true)
 
 -- the past of the client's side, behind the filters
 abbrev pub down_past : {f : Filtering} {s : Origin} {p : Passed} {closed : Bool}

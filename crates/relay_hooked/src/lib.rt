@@ -8,6 +8,7 @@ ghost use Rattle.relay_calls.specs.Log.{IsAllowed};
 ghost use Rattle.relay_filters.specs.Response.{SomeAllow};
 ghost use Rattle.relay_hooked.specs.Neutral.{IsAsWithout};
 ghost use Rattle.relay_hooked.specs.Stations.{ComeInOrder};
+ghost use Rattle.relay_hooked.specs.Order.{EndsByCause};
 ghost use Rattle.relay_hooked.specs.Laws.{IsAttemptSoFar, IsCaused, IsFinishing, IsInOrderSoFar, IsToldSoFar};
 
 pub use exchange::{HookedExchange, Unbegun, begin, turn};
@@ -55,4 +56,10 @@ pub fn neutral_alike()
 /// where the error may be told for which the side stopped.
 pub fn calls_in_order()
     ensures { ComeInOrder }
+{}
+
+/// An end of what the filter of requests left has its cause: the client's body has ended, or a call
+/// took a piece away.
+pub fn end_caused()
+    ensures { EndsByCause }
 {}

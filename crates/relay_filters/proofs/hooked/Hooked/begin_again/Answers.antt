@@ -18,8 +18,8 @@ use Rattle.relay_filters.proofs.hooked.Hooked.begin_again.Goals as goal
 -- it passed
 pub returns-in-Ok-clause-begins : goal.returns-in-Ok-clause-begins
 returns-in-Ok-clause-begins g c = λ client s p is_put none ends own h. record {
-  passed = again_reads s _ _ c.args.inner c.pass_piece.new.inner _ _ s.head.method c.args.session.seen _ _
-      c.args.of_head p c.args.first c.pass_piece.new.session.seen _
+  passed = again_reads s _ _ c.args.inner c.pass_piece.new.inner _ _ s.head.method
+      c.args.session.seen _ _ c.args.of_head p c.args.first c.pass_piece.new.session.seen _
       (c.len-at.ensures ∙ ap (λ (l : List LogEntry). length l) c.phase_log.ensures) c.requires
       is_put none ends own c.in-Ok.ensures.rest h c.in-Ok.made c.in-Ok.ensures.filters;
   quiet = quiet_by None c.args.inner.told c.told-told.result c.args.inner.told
@@ -51,8 +51,8 @@ returns-in-Ok-clause-end g c = λ last.
 -- it was refused, or memory was wanted
 pub returns-in-Err-clause-begins : goal.returns-in-Err-clause-begins
 returns-in-Err-clause-begins g c = λ client s p is_put none ends own h. record {
-  passed = again_stops s _ _ c.args.inner c.pass_piece.new.inner _ _ s.head.method c.args.session.seen _ _
-      c.args.of_head p c.args.first c.pass_piece.new.session.seen _
+  passed = again_stops s _ _ c.args.inner c.pass_piece.new.inner _ _ s.head.method
+      c.args.session.seen _ _ c.args.of_head p c.args.first c.pass_piece.new.session.seen _
       (c.len-at.ensures ∙ ap (λ (l : List LogEntry). length l) c.phase_log.ensures) c.requires
       is_put none ends own c.in-Err.ensures.rest h c.in-Err.why c.in-Err.ensures.filters;
   quiet = quiet_by (Some c.in-Err.why) (failed c.in-Err.why c.args.inner.told)
