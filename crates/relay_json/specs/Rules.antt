@@ -152,9 +152,9 @@ rule_of value =
 abbrev pub listed_of : Data → Option (List Rule)
 listed_of value = list_of rule_of value
 
--- the hooks that are called: those in front of the attempts, those of an attempt up to the head that
--- is sent, those that look at the error of an attempt, and those of the end. The others are taken
--- once they are
+-- the hooks that are called: those in front of the attempts and of a purge, those of an attempt up to
+-- the head that is sent, those that look at the error of an attempt, and those of the end. The others
+-- are taken once they are
 abbrev pub is_called : Hook → Bool
 is_called hook.EarlyRequestFilter = true
 is_called hook.AllowSpawningSubrequest = true
@@ -162,6 +162,7 @@ is_called hook.InitDownstreamModules = true
 is_called hook.ModuleRequestHeader = true
 is_called hook.RequestFilter = true
 is_called hook.IsPurge = true
+is_called hook.PurgeResponseFilter = true
 is_called hook.ProxyUpstreamFilter = true
 is_called hook.UpstreamPeer = true
 is_called hook.FailToConnect = true

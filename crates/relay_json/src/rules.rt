@@ -49,9 +49,10 @@ fn are_called(rules: &[Rule]) -> bool
     rules.iter().all(|rule| is_called(rule.hook))
 }
 
-/// Whether the proxy calls the hook: those in front of the attempts, those of an attempt up to the
-/// head that is sent, those that look at the error of an attempt, and those of the end. A rule on
-/// another hook is taken once that is called, so that no script is taken that is not followed.
+/// Whether the proxy calls the hook: those in front of the attempts and of a purge, those of an
+/// attempt up to the head that is sent, those that look at the error of an attempt, and those of the
+/// end. A rule on another hook is taken once that is called, so that no script is taken that is not
+/// followed.
 fn is_called(hook: Hook) -> bool
     ensures { result ≡ is_called hook }
 {
@@ -63,6 +64,7 @@ fn is_called(hook: Hook) -> bool
             | Hook::ModuleRequestHeader
             | Hook::RequestFilter
             | Hook::IsPurge
+            | Hook::PurgeResponseFilter
             | Hook::ProxyUpstreamFilter
             | Hook::UpstreamPeer
             | Hook::FailToConnect

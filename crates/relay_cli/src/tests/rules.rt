@@ -153,8 +153,9 @@ const TAKEN: [(&str, usize); 8] = [
     ),
     (
         "[{\"hook\":\"is_purge\",\"do\":\"say\",\"on\":true},\
+      {\"hook\":\"purge_response_filter\",\"do\":\"remove\",\"name\":\"a\"},\
       {\"hook\":\"module_request_header\",\"do\":\"remove\",\"name\":\"a\"}]",
-        2,
+        3,
     ),
     (
         "[{\"hook\":\"upstream_peer\",\"do\":\"error\",\"type\":\"Custom(7)\"},\
