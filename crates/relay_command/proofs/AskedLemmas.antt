@@ -15,16 +15,16 @@ use Rattle.relay_links.specs.ScriptLink.{script_state, script_start, AnswersBy}
 use Rattle.relay_links.specs.declared.connector.Returned.{Returned}
 use Rattle.relay_links.specs.declared.script_link.ScriptLink.{ScriptLink}
 use Rattle.relay_attempt.specs.Passed.{Passed}
-use Rattle.relay_proxy.specs.Endings.{EndsWith, AttemptsFailed, AttemptsUnfinished, AttemptsUnlinked, MadeAhead, MadeNone}
-use Rattle.relay_proxy.specs.Legs.{AreLegs, BeginsAt, IsLeg, Leg, behind, rebased, taken_by, taken_in}
-use Rattle.relay_proxy.specs.Passed.{World, Start}
-use Rattle.relay_proxy.specs.Refusals.{fault_told, faults_told}
-use Rattle.relay_proxy.specs.Taken.{AreNext, offers_for}
-use Rattle.relay_proxy.specs.Tries.{AreTries, EndsTrying, LosesTry, Refusal, fault_error, fault_of, record_of, refusals_since, tries_of, unlinked_record}
-use Rattle.relay_proxy.specs.declared.outcome.Outcome.{Outcome}
-use Rattle.relay_proxy.specs.declared.outcome.Outcome.TheVariants as ended
-use Rattle.relay_proxy.specs.declared.record.AttemptRecord.{AttemptRecord}
-use Rattle.relay_proxy.proofs.TryLemmas.{tries_before}
+use Rattle.relay_request.specs.Endings.{EndsWith, AttemptsFailed, AttemptsUnfinished, AttemptsUnlinked, MadeAhead, MadeNone}
+use Rattle.relay_request.specs.Legs.{AreLegs, BeginsAt, IsLeg, Leg, behind, rebased, taken_by, taken_in}
+use Rattle.relay_request.specs.Passed.{World, Start}
+use Rattle.relay_request.specs.Refusals.{fault_told, faults_told}
+use Rattle.relay_request.specs.Taken.{AreNext, offers_for}
+use Rattle.relay_request.specs.Tries.{AreTries, EndsTrying, LosesTry, Refusal, fault_error, fault_of, record_of, refusals_since, tries_of, unlinked_record}
+use Rattle.relay_request.specs.declared.outcome.Outcome.{Outcome}
+use Rattle.relay_request.specs.declared.outcome.Outcome.TheVariants as ended
+use Rattle.relay_request.specs.declared.record.AttemptRecord.{AttemptRecord}
+use Rattle.relay_turns.proofs.TryLemmas.{tries_before}
 use Rattle.relay_command.specs.Exchange.{AreLinksOf, GetsNext, left_by, links_back, offers_of, peer_offer}
 use Rattle.relay_json.specs.Script.{PeerSpec}
 

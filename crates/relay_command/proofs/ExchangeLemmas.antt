@@ -16,17 +16,17 @@ use Rattle.relay_links.specs.Told.{Since, more}
 use Rattle.relay_links.specs.declared.connector.Returned.{Returned}
 use Rattle.relay_links.specs.declared.script_connector.PeerScript.{PeerScript}
 use Rattle.relay_links.specs.declared.script_link.ScriptLink.{ScriptLink}
-use Rattle.relay_proxy.specs.ClosingHooks.{Gives}
-use Rattle.relay_proxy.specs.Ahead.{IsOwedAhead}
-use Rattle.relay_proxy.specs.Endings.{EndsAhead, EndsUnlinked, EndsWith, FailsToConnect, IsFailedAttempt, IsRelayedEarly, IsRelayedWhole, IsReusableAhead, IsUnsentAttempt}
-use Rattle.relay_proxy.specs.Legs.{AreLegs, Leg, behind, rebased}
+use Rattle.relay_request.specs.ClosingHooks.{Gives}
+use Rattle.relay_request.specs.Ahead.{IsOwedAhead}
+use Rattle.relay_request.specs.Endings.{EndsAhead, EndsUnlinked, EndsWith, FailsToConnect, IsFailedAttempt, IsRelayedEarly, IsRelayedWhole, IsReusableAhead, IsUnsentAttempt}
+use Rattle.relay_request.specs.Legs.{AreLegs, Leg, behind, rebased}
 use Rattle.relay_attempt.specs.Passed.{Passed}
-use Rattle.relay_proxy.specs.Passed.{World, Start, TellsClient, called_to, start_of}
-use Rattle.relay_proxy.specs.Request.{Processes}
-use Rattle.relay_proxy.specs.declared.outcome.Outcome.{Outcome}
-use Rattle.relay_proxy.specs.declared.outcome.Outcome.TheVariants as ended
-use Rattle.relay_proxy.specs.declared.outcome.Processed.{Processed}
-use Rattle.relay_proxy.specs.declared.record.AttemptRecord.{AttemptRecord}
+use Rattle.relay_request.specs.Passed.{World, Start, TellsClient, called_to, start_of}
+use Rattle.relay_request.specs.Request.{Processes}
+use Rattle.relay_request.specs.declared.outcome.Outcome.{Outcome}
+use Rattle.relay_request.specs.declared.outcome.Outcome.TheVariants as ended
+use Rattle.relay_request.specs.declared.outcome.Processed.{Processed}
+use Rattle.relay_request.specs.declared.record.AttemptRecord.{AttemptRecord}
 use Rattle.relay_scripted.specs.declared.proxy.ScriptProxy.{ScriptProxy}
 use Rattle.relay_command.proofs.AskedLemmas.{request_asked}
 use Rattle.relay_command.proofs.ListLemmas.{drop_at}

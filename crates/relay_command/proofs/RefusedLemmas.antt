@@ -17,19 +17,19 @@ use Rattle.relay_links.specs.declared.read_script.ReadItem.{ReadItem}
 use Rattle.relay_links.specs.declared.read_script.ReadItem.TheVariants as item
 use Rattle.relay_links.specs.declared.script_link.ScriptLink.{ScriptLink}
 use Rattle.relay_attempt.specs.Passed.{Passed}
-use Rattle.relay_proxy.specs.ClosingHooks.{Gives}
-use Rattle.relay_proxy.specs.Endings.{EndsWith, IsNoRequest}
-use Rattle.relay_proxy.specs.Bound.{OwnGave, most_sides, sides_before}
-use Rattle.relay_proxy.specs.Closing.{IsQuiet}
-use Rattle.relay_proxy.specs.Legs.{AreLegs, Leg, LegsWithin, behind, rebased}
-use Rattle.relay_proxy.proofs.BoundLemmas.{turns_bounded}
-use Rattle.relay_proxy.specs.Passed.{World, Start}
+use Rattle.relay_request.specs.ClosingHooks.{Gives}
+use Rattle.relay_request.specs.Endings.{EndsWith, IsNoRequest}
+use Rattle.relay_request.specs.Bound.{OwnGave, most_sides, sides_before}
+use Rattle.relay_request.specs.Closing.{IsQuiet}
+use Rattle.relay_request.specs.Legs.{AreLegs, Leg, LegsWithin, behind, rebased}
+use Rattle.relay_turns.proofs.BoundLemmas.{turns_bounded}
+use Rattle.relay_request.specs.Passed.{World, Start}
 use Rattle.relay_links.specs.declared.branch.Branch.{Branch}
 use Rattle.relay_links.specs.ListSchedule.{branches_left}
 use Rattle.relay_links.specs.declared.list_schedule.ListSchedule.{ListSchedule}
-use Rattle.relay_proxy.specs.declared.outcome.Outcome.{Outcome}
-use Rattle.relay_proxy.specs.declared.outcome.Outcome.TheVariants as ended
-use Rattle.relay_proxy.specs.declared.record.AttemptRecord.{AttemptRecord}
+use Rattle.relay_request.specs.declared.outcome.Outcome.{Outcome}
+use Rattle.relay_request.specs.declared.outcome.Outcome.TheVariants as ended
+use Rattle.relay_request.specs.declared.record.AttemptRecord.{AttemptRecord}
 use Rattle.relay_command.specs.Exchange.{AreLinksOf, GetsNext, IsRefusedBy, left_by, links_back, Place, world_at, first_place, start_at, IsRequest, Follows, AreRun, IsRun}
 use Rattle.relay_command.specs.Report.{RequestSpec, outcome_reuse}
 use Rattle.relay_json.specs.Script.{PeerSpec, ScriptSpec}

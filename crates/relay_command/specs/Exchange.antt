@@ -21,13 +21,13 @@ use Rattle.relay_scripted.specs.Scripted.{IsScripted}
 use Rattle.relay_scripted.specs.declared.modules.ScriptModules.{ScriptModules}
 use Rattle.relay_scripted.specs.declared.proxy.ScriptProxy.{ScriptProxy}
 use Rattle.relay_phases.specs.Order.{Station}
-use Rattle.relay_proxy.specs.Calls.{IsLogged, allowed_by}
-use Rattle.relay_proxy.specs.Legs.{Leg}
-use Rattle.relay_proxy.specs.Passed.{World, Start, called_to, start_of}
-use Rattle.relay_proxy.specs.Request.{Processes}
-use Rattle.relay_proxy.specs.declared.outcome.Processed.{Processed}
-use Rattle.relay_proxy.specs.declared.outcome.Outcome.TheVariants.{OutOfMemory}
-use Rattle.relay_proxy.specs.declared.record.AttemptRecord.{AttemptRecord}
+use Rattle.relay_request.specs.Calls.{IsLogged, allowed_by}
+use Rattle.relay_request.specs.Legs.{Leg}
+use Rattle.relay_request.specs.Passed.{World, Start, called_to, start_of}
+use Rattle.relay_request.specs.Request.{Processes}
+use Rattle.relay_request.specs.declared.outcome.Processed.{Processed}
+use Rattle.relay_request.specs.declared.outcome.Outcome.TheVariants.{OutOfMemory}
+use Rattle.relay_request.specs.declared.record.AttemptRecord.{AttemptRecord}
 use Rattle.relay_command.specs.Log.{log_lines}
 use Rattle.relay_command.specs.Report.{RequestSpec, outcome_reuse}
 use Rattle.relay_json.specs.Script.{PeerSpec, ScriptSpec}

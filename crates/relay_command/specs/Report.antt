@@ -5,8 +5,8 @@ use Rattle.relay_tasks.specs.declared.error.ErrorSource.{ErrorSource}
 use Rattle.relay_tasks.specs.declared.error.ErrorSource.TheVariants as source
 use Rattle.relay_tasks.specs.declared.error.RetryType.{RetryType}
 use Rattle.relay_tasks.specs.declared.error.RetryType.TheVariants as retry
-use Rattle.relay_proxy.specs.declared.outcome.Outcome.{Outcome}
-use Rattle.relay_proxy.specs.declared.outcome.Outcome.TheVariants as outcome
+use Rattle.relay_request.specs.declared.outcome.Outcome.{Outcome}
+use Rattle.relay_request.specs.declared.outcome.Outcome.TheVariants as outcome
 use Rattle.relay_json.specs.Names.{hook_name, type_text}
 use Rattle.relay_command.specs.declared.log.HookAnswer.{HookAnswer}
 use Rattle.relay_command.specs.declared.log.HookAnswer.TheVariants.{Failed, Said, Done}

@@ -16,7 +16,7 @@ use Rattle.relay_tasks.specs.declared.log.LogEntry.{LogEntry}
 use Rattle.relay_phases.specs.Order.{Accepts, Move, Station, accepted, first_told, is_answer, is_told, move, moves, next, next_behind, no, yes}
 use Rattle.relay_phases.specs.Order.{Station as station}
 use Rattle.relay_opening.specs.Told.{head_behind}
-use Rattle.relay_proxy.specs.Sent.{FailsAt, is_of}
+use Rattle.relay_request.specs.Sent.{FailsAt, is_of}
 use Rattle.relay_neutral.specs.Neutral.{IsNeutral}
 
 -- ---- each call

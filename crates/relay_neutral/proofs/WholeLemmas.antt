@@ -23,16 +23,16 @@ use Rattle.relay_opening.specs.Told.{head_behind}
 use Rattle.relay_phases.specs.Order.{Station as station}
 use Rattle.relay_attempt.specs.Agrees.{Agrees}
 use Rattle.relay_attempt.specs.Passed.{Passed}
-use Rattle.relay_proxy.specs.Ahead.{IsOwedAhead}
-use Rattle.relay_proxy.specs.ClosingHooks.{Gives}
-use Rattle.relay_proxy.specs.Endings.{EndsAhead}
-use Rattle.relay_proxy.specs.Exact.{IsUnfinished}
-use Rattle.relay_proxy.specs.Legs.{behind}
-use Rattle.relay_proxy.specs.Passed.{Start, World}
-use Rattle.relay_proxy.specs.declared.outcome.Outcome.{Outcome}
-use Rattle.relay_proxy.specs.declared.outcome.Outcome.TheVariants.{OutOfMemory, Served, TurnLimit}
-use Rattle.relay_proxy.specs.Sent.{Filters, RefusesToSend, Sends, SettlesFramed, asked_in, client_of}
-use Rattle.relay_proxy.proofs.SentLemmas.{sends_agrees}
+use Rattle.relay_request.specs.Ahead.{IsOwedAhead}
+use Rattle.relay_request.specs.ClosingHooks.{Gives}
+use Rattle.relay_request.specs.Endings.{EndsAhead}
+use Rattle.relay_request.specs.Exact.{IsUnfinished}
+use Rattle.relay_request.specs.Legs.{behind}
+use Rattle.relay_request.specs.Passed.{Start, World}
+use Rattle.relay_request.specs.declared.outcome.Outcome.{Outcome}
+use Rattle.relay_request.specs.declared.outcome.Outcome.TheVariants.{OutOfMemory, Served, TurnLimit}
+use Rattle.relay_request.specs.Sent.{Filters, RefusesToSend, Sends, SettlesFramed, asked_in, client_of}
+use Rattle.relay_turns.proofs.SentLemmas.{sends_agrees}
 use Rattle.relay_neutral.specs.Neutral.{CanBeSent, IsNeutral, NeutralIsWhole}
 use Rattle.relay_neutral.proofs.LogLemmas.{before_one, never_ends, never_fails, neutral_head, one_of}
 

@@ -15,14 +15,14 @@ use Rattle.relay_links.specs.Link.{LinkState, LinkStart}
 use Rattle.relay_links.specs.declared.Returned.{Returned}
 use Rattle.relay_phases.specs.Order.{is_answer}
 use Rattle.relay_valid.specs.Valid.{AsksFor, AnswersWith}
-use Rattle.relay_proxy.specs.Exact.{IsFaultless, IsUnfinished}
-use Rattle.relay_proxy.specs.Legs.{behind}
-use Rattle.relay_proxy.specs.Passed.{Start, World, origin_of}
-use Rattle.relay_proxy.specs.Relayable.{IsRelayable}
-use Rattle.relay_proxy.specs.Request.{Processes}
-use Rattle.relay_proxy.specs.Sent.{Sends, SettlesFramed, client_of, is_of}
-use Rattle.relay_proxy.specs.declared.outcome.Outcome.TheVariants.{Served}
-use Rattle.relay_proxy.specs.declared.outcome.Processed.{Processed}
+use Rattle.relay_request.specs.Exact.{IsFaultless, IsUnfinished}
+use Rattle.relay_request.specs.Legs.{behind}
+use Rattle.relay_request.specs.Passed.{Start, World, origin_of}
+use Rattle.relay_request.specs.Relayable.{IsRelayable}
+use Rattle.relay_request.specs.Request.{Processes}
+use Rattle.relay_request.specs.Sent.{Sends, SettlesFramed, client_of, is_of}
+use Rattle.relay_request.specs.declared.outcome.Outcome.TheVariants.{Served}
+use Rattle.relay_request.specs.declared.outcome.Processed.{Processed}
 
 -- the call ends the request before its attempts: its hook answers the client itself, calls the
 -- request a purge, or does not let it go to an upstream

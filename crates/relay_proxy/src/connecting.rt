@@ -8,26 +8,25 @@ ghost use Rattle.relay_links.specs.Connector.{IsConnectFault};
 ghost use Rattle.relay_links.specs.Count.{last_count, Rose};
 ghost use Rattle.relay_links.specs.Link.{LinkState, IsHandedOut};
 ghost use Rattle.relay_attempt.specs.Passed.{Passed};
-ghost use Rattle.relay_proxy.specs.declared.calls.At.{At};
-ghost use Rattle.relay_proxy.specs.Bound.{CountsLink};
-ghost use Rattle.relay_proxy.specs.Calls.{CallsSoFar, CountsCalls, IsUnended, allowed_by, is_calling, log_of};
-ghost use Rattle.relay_proxy.specs.Taken.{TakesAfter};
-ghost use Rattle.relay_proxy.specs.Passed.{World, Start, opened_to};
-ghost use Rattle.relay_proxy.specs.Phases.{RunSoFar};
-ghost use Rattle.relay_proxy.specs.Refusals.{faults_before, faults_told};
-ghost use Rattle.relay_proxy.specs.Stock.{items_held};
-ghost use Rattle.relay_proxy.specs.Uses.{PhaseUses};
-ghost use Rattle.relay_proxy.specs.Tries.{MayTry, tries_in, unlinked_record};
-ghost use Rattle.relay_proxy.specs.Turn.{world_with, DoesWork, is_over, is_end, links_held, Advances, HasCause};
+ghost use Rattle.relay_request.specs.declared.calls.At.{At};
+ghost use Rattle.relay_request.specs.Bound.{CountsLink};
+ghost use Rattle.relay_request.specs.Calls.{CallsSoFar, CountsCalls, IsUnended, allowed_by, is_calling, log_of};
+ghost use Rattle.relay_request.specs.Taken.{TakesAfter};
+ghost use Rattle.relay_request.specs.Passed.{World, Start, opened_to};
+ghost use Rattle.relay_request.specs.Phases.{RunSoFar};
+ghost use Rattle.relay_request.specs.Refusals.{faults_before, faults_told};
+ghost use Rattle.relay_request.specs.Stock.{items_held};
+ghost use Rattle.relay_request.specs.Uses.{PhaseUses};
+ghost use Rattle.relay_request.specs.Tries.{MayTry, tries_in, unlinked_record};
+ghost use Rattle.relay_request.specs.Turn.{world_with, DoesWork, is_over, is_end, links_held, Advances, HasCause};
 
-use crate::calls::{Calls, tell_link, treat_unlinked};
-use crate::machine::{Lease, Next, Phase, RunStep};
-use crate::outcome::Outcome;
 use crate::preparing::{closed, fail_ahead};
-use crate::record::{AttemptList, AttemptRecord, AttemptRoom};
-use crate::work::Work;
 use relay_hooks::{HttpModule, ProxyHttp};
 use relay_links::{ByteLink, Connector};
+use relay_request::{
+    AttemptList, AttemptRecord, AttemptRoom, Calls, Lease, Next, Outcome, Phase, RunStep, Work,
+    tell_link, treat_unlinked,
+};
 use relay_session::HttpSession;
 use relay_tasks::{Error, Fail, Fault, Peer};
 use std::alloc::Global;

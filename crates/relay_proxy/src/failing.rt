@@ -4,30 +4,28 @@ ghost use Rattle.std.specs.Prelude.{◌≡◌, ◌⊎◌, ◌↔◌, ◌+◌, �
 ghost use Rattle.relay_tasks.specs.Error.{may_retry};
 ghost use Rattle.relay_session.specs.Session.{may_begin_again};
 ghost use Rattle.relay_attempt.specs.Passed.{Passed};
-ghost use Rattle.relay_proxy.specs.Bound.{CountsTreat, LeavesLink};
-ghost use Rattle.relay_proxy.specs.Calls.{CallsSoFar, CountsCalls, IsUnended, Owing, allowed_by, log_of, treated_at};
-ghost use Rattle.relay_proxy.specs.Leaving.{Answers, WritesAhead};
-ghost use Rattle.relay_proxy.specs.Legs.{RepeatsOn};
-ghost use Rattle.relay_proxy.specs.Passed.{World, Start, called_to, opened_to};
-ghost use Rattle.relay_proxy.specs.Phases.{RunSoFar, waits_to_begin};
-ghost use Rattle.relay_proxy.specs.Refusals.{attempts_in};
-ghost use Rattle.relay_proxy.specs.Relaying.{is_closing};
-ghost use Rattle.relay_proxy.specs.Stock.{items_held};
-ghost use Rattle.relay_proxy.specs.Tries.{MayTry, tries_in};
-ghost use Rattle.relay_proxy.specs.Uses.{ClientUses, LinkUses, OwesAnswer, PhaseUses};
-ghost use Rattle.relay_proxy.specs.Turn.{DoesWork, held_state, is_over, is_end, links_held, world_of, Advances, HandsOn, HasCause};
+ghost use Rattle.relay_request.specs.Bound.{CountsTreat, LeavesLink};
+ghost use Rattle.relay_request.specs.Calls.{CallsSoFar, CountsCalls, IsUnended, Owing, allowed_by, log_of, treated_at};
+ghost use Rattle.relay_request.specs.Leaving.{Answers, WritesAhead};
+ghost use Rattle.relay_request.specs.Legs.{RepeatsOn};
+ghost use Rattle.relay_request.specs.Passed.{World, Start, called_to, opened_to};
+ghost use Rattle.relay_request.specs.Phases.{RunSoFar, waits_to_begin};
+ghost use Rattle.relay_request.specs.Refusals.{attempts_in};
+ghost use Rattle.relay_request.specs.Relaying.{is_closing};
+ghost use Rattle.relay_request.specs.Stock.{items_held};
+ghost use Rattle.relay_request.specs.Tries.{MayTry, tries_in};
+ghost use Rattle.relay_request.specs.Uses.{ClientUses, LinkUses, OwesAnswer, PhaseUses};
+ghost use Rattle.relay_request.specs.Turn.{DoesWork, held_state, is_over, is_end, links_held, world_of, Advances, HandsOn, HasCause};
 
 use crate::answering::offer;
-use crate::calls::{Calls, Opened, answer_error, call_next, treat};
 use crate::connecting::may_try;
-use crate::machine::{Lease, Next, Phase, RunStep};
-use crate::outcome::Outcome;
-use crate::owed::Owed;
 use crate::preparing::closed;
-use crate::work::Work;
 use relay_h1::Connection;
 use relay_hooks::{HttpModule, ProxyHttp};
 use relay_links::{ByteLink, Put};
+use relay_request::{
+    Calls, Lease, Next, Opened, Outcome, Owed, Phase, RunStep, Work, answer_error, call_next, treat,
+};
 use relay_session::HttpSession;
 use relay_tasks::{Error, Pause};
 

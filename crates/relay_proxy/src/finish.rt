@@ -1,24 +1,14 @@
 //! The end of a request: its link goes back to the connector, and its attempt is recorded.
 ghost use Rattle.std.specs.Prelude.{◌≡◌, ◌+◌, ◌<◌, ◌≤◌, [], ◌∷◌, true};
-ghost use Rattle.relay_proxy.specs.Closing.{HandsBack, Settles, GivesLinkUp, Finishes};
-ghost use Rattle.relay_proxy.specs.Relaying.{is_closing};
-ghost use Rattle.relay_proxy.specs.Stock.{items_held, all_items};
-ghost use Rattle.relay_proxy.specs.Turn.{links_held, is_over};
+ghost use Rattle.relay_request.specs.Closing.{HandsBack, Settles, GivesLinkUp, Finishes};
+ghost use Rattle.relay_request.specs.Relaying.{is_closing};
+ghost use Rattle.relay_request.specs.Stock.{items_held, all_items};
+ghost use Rattle.relay_request.specs.Turn.{links_held, is_over};
 
-use crate::machine::{Attempt, Lease, Phase};
-use crate::outcome::Outcome;
-use crate::owed::Owed;
-use crate::record::{AttemptList, AttemptRecord};
 use relay_links::Connector;
+use relay_request::{Attempt, AttemptList, AttemptRecord, Ending, Lease, Outcome, Owed, Phase};
 use std::alloc::Global;
 use std::mem;
-
-/// How a request ended, and its attempts.
-#[derive(Drop)]
-pub(crate) struct Ending {
-    pub(crate) outcome: Outcome,
-    pub(crate) attempts: AttemptList,
-}
 
 /// Hands a link back with that mark, and records its attempt. It takes no memory.
 fn release<K: Connector>(

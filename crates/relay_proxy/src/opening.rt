@@ -10,30 +10,28 @@ ghost use Rattle.relay_session.specs.declared.writing.Outgoing.{Outgoing};
 ghost use Rattle.relay_tasks.specs.Head.{RequestHead};
 ghost use Rattle.relay_tasks.specs.declared.log.LogEntry.{LogEntry};
 ghost use Rattle.relay_attempt.specs.Passed.{Passed};
-ghost use Rattle.relay_proxy.specs.Bound.{CountsCall, CountsLink};
-ghost use Rattle.relay_proxy.specs.Calls.{CallsSoFar, CountsCalls, IsUnended, Owing, allowed_by, final_at, is_calling, log_of};
-ghost use Rattle.relay_proxy.specs.Passed.{World, Start, called_to, opened_to};
-ghost use Rattle.relay_proxy.specs.Phases.{RunSoFar};
-ghost use Rattle.relay_proxy.specs.Purging.{AsksPurger};
-ghost use Rattle.relay_proxy.specs.Sent.{IsUntreated};
-ghost use Rattle.relay_proxy.specs.Stock.{items_held};
-ghost use Rattle.relay_proxy.specs.Relayable.{IsAccepted};
-ghost use Rattle.relay_proxy.specs.Refusals.{attempts_in, faults_before, faults_told};
-ghost use Rattle.relay_proxy.specs.Taken.{TakesAfter};
-ghost use Rattle.relay_proxy.specs.Tries.{AreTries};
-ghost use Rattle.relay_proxy.specs.Turn.{world_with, DoesWork, is_connecting, is_over, is_end, links_held, Advances, HasCause};
-ghost use Rattle.relay_proxy.specs.Uses.{OwesAnswer, PhaseUses};
+ghost use Rattle.relay_request.specs.Bound.{CountsCall, CountsLink};
+ghost use Rattle.relay_request.specs.Calls.{CallsSoFar, CountsCalls, IsUnended, Owing, allowed_by, final_at, is_calling, log_of};
+ghost use Rattle.relay_request.specs.Passed.{World, Start, called_to, opened_to};
+ghost use Rattle.relay_request.specs.Phases.{RunSoFar};
+ghost use Rattle.relay_request.specs.Purging.{AsksPurger};
+ghost use Rattle.relay_request.specs.Sent.{IsUntreated};
+ghost use Rattle.relay_request.specs.Stock.{items_held};
+ghost use Rattle.relay_request.specs.Relayable.{IsAccepted};
+ghost use Rattle.relay_request.specs.Refusals.{attempts_in, faults_before, faults_told};
+ghost use Rattle.relay_request.specs.Taken.{TakesAfter};
+ghost use Rattle.relay_request.specs.Tries.{AreTries};
+ghost use Rattle.relay_request.specs.Turn.{world_with, DoesWork, is_connecting, is_over, is_end, links_held, Advances, HasCause};
+ghost use Rattle.relay_request.specs.Uses.{OwesAnswer, PhaseUses};
 
 use crate::answering::owe;
-use crate::calls::{Calls, Opened, answer_error, call_next};
 use crate::connecting::{connect, lacks_memory};
-use crate::machine::{Next, Phase, RunStep};
-use crate::owed::Owed;
 use crate::purging::purge;
-use crate::record::AttemptList;
-use crate::work::Work;
 use relay_hooks::ProxyHttp;
 use relay_links::{ByteLink, Connector, Purger};
+use relay_request::{
+    AttemptList, Calls, Next, Opened, Owed, Phase, RunStep, Work, answer_error, call_next,
+};
 use relay_session::HttpSession;
 use relay_tasks::Error;
 

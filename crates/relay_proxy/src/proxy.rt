@@ -5,32 +5,31 @@ ghost use Rattle.relay_links.specs.Count.{Rose};
 ghost use Rattle.relay_links.specs.Link.{LinkState};
 ghost use Rattle.relay_peer.specs.Body.{IsFrontOf};
 ghost use Rattle.relay_attempt.specs.Passed.{Passed};
-ghost use Rattle.relay_proxy.specs.Bound.{PhaseCounts};
+ghost use Rattle.relay_request.specs.Bound.{PhaseCounts};
 ghost use Rattle.relay_phases.specs.Order.{Station};
-ghost use Rattle.relay_proxy.specs.Calls.{CallsLast, CallsSoFar, CountsLast, IsLogged, KeepsValue, allowed_by, is_ending, kept_at, last_of, log_of};
+ghost use Rattle.relay_request.specs.Calls.{CallsLast, CallsSoFar, CountsLast, IsLogged, KeepsValue, allowed_by, is_ending, kept_at, last_of, log_of};
 ghost use Rattle.relay_links.specs.Count.{up};
-ghost use Rattle.relay_proxy.specs.Passed.{Start, called_to, start_of, nothing};
-ghost use Rattle.relay_proxy.specs.Phases.{RunSoFar};
-ghost use Rattle.relay_proxy.specs.Purging.{AsksPurger, HasLost, HasPurged};
-ghost use Rattle.relay_proxy.specs.Refusals.{attempts_in};
-ghost use Rattle.relay_proxy.specs.Request.{answer_of, is_done, is_stop, ended_after, kept_of, Counts, StepsOn, ComesToEnd, Processes};
-ghost use Rattle.relay_proxy.specs.Stock.{items_held, all_items};
-ghost use Rattle.relay_proxy.specs.Turn.{world_of, held_state, links_held, is_reading_head, is_over, is_end, HasCause};
-ghost use Rattle.relay_proxy.specs.Uses.{CountsUses, MovesOn, OwesAnswer, StandsBehind};
-ghost use Rattle.relay_proxy.specs.Work.{added_work, total_work, Grows};
-ghost use Rattle.relay_proxy.specs.declared.calls.At.{At};
-ghost use Rattle.relay_proxy.specs.declared.machine.Phase.{Phase};
+ghost use Rattle.relay_request.specs.Passed.{Start, called_to, start_of, nothing};
+ghost use Rattle.relay_request.specs.Phases.{RunSoFar};
+ghost use Rattle.relay_request.specs.Purging.{AsksPurger, HasLost, HasPurged};
+ghost use Rattle.relay_request.specs.Refusals.{attempts_in};
+ghost use Rattle.relay_request.specs.Request.{answer_of, is_done, is_stop, ended_after, kept_of, Counts, StepsOn, ComesToEnd, Processes};
+ghost use Rattle.relay_request.specs.Stock.{items_held, all_items};
+ghost use Rattle.relay_request.specs.Turn.{world_of, held_state, links_held, is_reading_head, is_over, is_end, HasCause};
+ghost use Rattle.relay_request.specs.Uses.{CountsUses, MovesOn, OwesAnswer, StandsBehind};
+ghost use Rattle.relay_request.specs.Work.{added_work, total_work, Grows};
+ghost use Rattle.relay_request.specs.declared.calls.At.{At};
+ghost use Rattle.relay_request.specs.declared.machine.Phase.{Phase};
 
-use crate::calls::{Calls, call_last};
 use crate::finish::{finish, settle};
-use crate::machine::{Did, Machine, RunStep};
-use crate::outcome::{Outcome, Processed, count_ended, kept_of};
-use crate::record::RunRecord;
 use crate::turn::take_turn;
-use crate::work::{Work, count_turn};
 use relay_h1::Connection;
 use relay_hooks::ProxyHttp;
 use relay_links::{ByteLink, Connector, Delay, Purger, Schedule, ShutdownWatch};
+use relay_request::{
+    Calls, Did, Machine, Outcome, Processed, RunRecord, RunStep, Work, call_last, count_ended,
+    count_turn, kept_of,
+};
 use relay_tasks::Pause;
 use std::alloc::Global;
 

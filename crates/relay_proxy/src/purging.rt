@@ -2,24 +2,21 @@
 //! RFC 9111, section 4.4).
 ghost use Rattle.std.specs.Prelude.{◌≡◌, ◌⊎◌, [], Some};
 ghost use Rattle.relay_attempt.specs.Passed.{Passed};
-ghost use Rattle.relay_proxy.specs.Bound.{CountsCall};
-ghost use Rattle.relay_proxy.specs.Calls.{CallsSoFar, CountsCalls, IsUnended, allowed_by, log_of, purge_at};
-ghost use Rattle.relay_proxy.specs.Passed.{World, Start, opened_to};
-ghost use Rattle.relay_proxy.specs.Phases.{RunSoFar};
-ghost use Rattle.relay_proxy.specs.Purging.{AsksPurger};
-ghost use Rattle.relay_proxy.specs.Refusals.{attempts_in};
-ghost use Rattle.relay_proxy.specs.Stock.{items_held};
-ghost use Rattle.relay_proxy.specs.Turn.{DoesWork, is_over, is_end, links_held, Advances, HasCause};
+ghost use Rattle.relay_request.specs.Bound.{CountsCall};
+ghost use Rattle.relay_request.specs.Calls.{CallsSoFar, CountsCalls, IsUnended, allowed_by, log_of, purge_at};
+ghost use Rattle.relay_request.specs.Passed.{World, Start, opened_to};
+ghost use Rattle.relay_request.specs.Phases.{RunSoFar};
+ghost use Rattle.relay_request.specs.Purging.{AsksPurger};
+ghost use Rattle.relay_request.specs.Refusals.{attempts_in};
+ghost use Rattle.relay_request.specs.Stock.{items_held};
+ghost use Rattle.relay_request.specs.Turn.{DoesWork, is_over, is_end, links_held, Advances, HasCause};
 
 use crate::answering::owe;
-use crate::calls::{Calls, call_purger};
 use crate::connecting::lacks_memory;
-use crate::machine::{Next, Phase, RunStep};
-use crate::owed::Owed;
-use crate::record::AttemptList;
 use relay_hooks::ProxyHttp;
 use relay_links::{ByteLink, Purger};
 use relay_purging::End;
+use relay_request::{AttemptList, Calls, Next, Owed, Phase, RunStep, call_purger};
 use relay_session::HttpSession;
 use relay_tasks::PurgeAction;
 

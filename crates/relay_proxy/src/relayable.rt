@@ -1,6 +1,6 @@
 //! What is asked of a head behind the entry check (RFC 9110, sections 7.8 and 9.3.6).
 ghost use Rattle.std.specs.Prelude.{◌↔◌, IsTrue};
-ghost use Rattle.relay_proxy.specs.Relayable.{IsConnect, NamesUpgrade};
+ghost use Rattle.relay_request.specs.Relayable.{IsConnect, NamesUpgrade};
 
 use relay_tasks::RequestHeader;
 

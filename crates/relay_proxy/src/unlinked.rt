@@ -2,22 +2,19 @@
 //! for its error (RFC 9110, section 15.6.3).
 ghost use Rattle.std.specs.Prelude.{◌≡◌, ◌⊎◌, []};
 ghost use Rattle.relay_attempt.specs.Passed.{Passed};
-ghost use Rattle.relay_proxy.specs.Bound.{CountsCall};
-ghost use Rattle.relay_proxy.specs.Calls.{CallsSoFar, CountsCalls, allowed_by, log_of};
-ghost use Rattle.relay_proxy.specs.Passed.{World, Start, called_to};
-ghost use Rattle.relay_proxy.specs.Phases.{RunSoFar};
-ghost use Rattle.relay_proxy.specs.Refusals.{attempts_in};
-ghost use Rattle.relay_proxy.specs.Stock.{items_held};
-ghost use Rattle.relay_proxy.specs.Turn.{DoesWork, is_over, is_end, links_held, Advances, HasCause};
+ghost use Rattle.relay_request.specs.Bound.{CountsCall};
+ghost use Rattle.relay_request.specs.Calls.{CallsSoFar, CountsCalls, allowed_by, log_of};
+ghost use Rattle.relay_request.specs.Passed.{World, Start, called_to};
+ghost use Rattle.relay_request.specs.Phases.{RunSoFar};
+ghost use Rattle.relay_request.specs.Refusals.{attempts_in};
+ghost use Rattle.relay_request.specs.Stock.{items_held};
+ghost use Rattle.relay_request.specs.Turn.{DoesWork, is_over, is_end, links_held, Advances, HasCause};
 
 use crate::answering::owe;
-use crate::calls::{Calls, answer_error};
 use crate::connecting::lacks_memory;
-use crate::machine::{Next, Phase, RunStep};
-use crate::owed::Owed;
-use crate::record::AttemptList;
 use relay_hooks::ProxyHttp;
 use relay_links::ByteLink;
+use relay_request::{AttemptList, Calls, Next, Owed, Phase, RunStep, answer_error};
 use relay_session::HttpSession;
 use relay_tasks::Error;
 

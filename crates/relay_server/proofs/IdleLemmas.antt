@@ -6,15 +6,15 @@ use Rattle.relay_links.specs.declared.Returned.{Returned}
 use Rattle.relay_tasks.specs.declared.log.LogEntry.{LogEntry}
 use Rattle.relay_hooks.specs.Standing.{Standing}
 use Rattle.relay_attempt.specs.Passed.{Passed}
-use Rattle.relay_proxy.specs.Calls.{CallsSoFar, log_of}
-use Rattle.relay_proxy.specs.Passed.{World, Start}
-use Rattle.relay_proxy.specs.Phases.{RunSoFar}
-use Rattle.relay_proxy.specs.Request.{is_done}
-use Rattle.relay_proxy.specs.Turn.{is_reading_head}
-use Rattle.relay_proxy.specs.declared.calls.At.{At}
-use Rattle.relay_proxy.specs.declared.calls.Calls.{Calls}
-use Rattle.relay_proxy.specs.declared.machine.Phase.{Phase}
-use Rattle.relay_proxy.specs.declared.machine.Phase.TheVariants.{ReadHead, Connect, Unlinked, Prepare, Relay, Broken, Again, Fail, Close, Answer, Ended}
+use Rattle.relay_request.specs.Calls.{CallsSoFar, log_of}
+use Rattle.relay_request.specs.Passed.{World, Start}
+use Rattle.relay_request.specs.Phases.{RunSoFar}
+use Rattle.relay_request.specs.Request.{is_done}
+use Rattle.relay_request.specs.Turn.{is_reading_head}
+use Rattle.relay_request.specs.declared.calls.At.{At}
+use Rattle.relay_request.specs.declared.calls.Calls.{Calls}
+use Rattle.relay_request.specs.declared.machine.Phase.{Phase}
+use Rattle.relay_request.specs.declared.machine.Phase.TheVariants.{ReadHead, Connect, Unlinked, Prepare, Relay, Broken, Again, Fail, Close, Answer, Ended}
 use Rattle.relay_server.specs.Idle.{is_idle, HasNotBegun}
 use Rattle.relay_server.specs.Serving.{Visit}
 

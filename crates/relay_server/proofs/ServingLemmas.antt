@@ -20,30 +20,30 @@ use Rattle.relay_attempt.specs.Passed.{Passed}
 use Rattle.relay_peer.specs.Body.{IsFrontOf}
 use Rattle.relay_session.specs.declared.session.HttpSession.{HttpSession}
 use Rattle.relay_session.specs.declared.writing.Outgoing.{Outgoing}
-use Rattle.relay_proxy.specs.Calls.{CallsSoFar, allowed_by, log_of}
-use Rattle.relay_proxy.specs.Endings.{AttemptsFailed, AttemptsUnlinked, EndsAhead, EndsLinked, EndsUnlinked, EndsWith, FailsToConnect, IsClientReusable, IsGivenAhead, IsOwedUnlinked, IsUnconnected}
-use Rattle.relay_proxy.specs.Legs.{AreLegs, BeginsAt, Leg, behind}
-use Rattle.relay_proxy.specs.Owed.{Owes, IsAnswering, TellsOwed}
-use Rattle.relay_proxy.specs.Passed.{World, Start, called_to}
-use Rattle.relay_proxy.specs.Phases.{RunSoFar, IsBroken, IsCalm, IsConnecting, LacksLink, PhaseHolds, IsAt}
-use Rattle.relay_proxy.specs.Request.{StepsOn, ComesToEnd, ended_after, is_done}
-use Rattle.relay_proxy.specs.Tries.{tries_in}
-use Rattle.relay_proxy.specs.Turn.{world_with, world_of, is_over, links_held}
-use Rattle.relay_proxy.specs.declared.calls.At.{At}
-use Rattle.relay_proxy.specs.declared.machine.Lease.{Lease}
-use Rattle.relay_proxy.specs.declared.machine.Phase.{Phase}
-use Rattle.relay_proxy.specs.declared.machine.Phase.TheVariants.{ReadHead, Connect, Unlinked, Prepare, Relay, Broken, Again, Fail, Close, Answer, Ended}
-use Rattle.relay_proxy.specs.declared.outcome.Outcome.{Outcome}
-use Rattle.relay_proxy.specs.declared.work.Work.{Work}
-use Rattle.relay_proxy.specs.declared.outcome.Outcome.TheVariants.{NoRequest, Refused, Served, TurnLimit, OutOfMemory}
-use Rattle.relay_proxy.specs.declared.outcome.Processed.{Processed}
-use Rattle.relay_proxy.specs.declared.owed.Owed.{Owed}
-use Rattle.relay_proxy.specs.declared.owed.Owed.TheVariants as due
+use Rattle.relay_request.specs.Calls.{CallsSoFar, allowed_by, log_of}
+use Rattle.relay_request.specs.Endings.{AttemptsFailed, AttemptsUnlinked, EndsAhead, EndsLinked, EndsUnlinked, EndsWith, FailsToConnect, IsClientReusable, IsGivenAhead, IsOwedUnlinked, IsUnconnected}
+use Rattle.relay_request.specs.Legs.{AreLegs, BeginsAt, Leg, behind}
+use Rattle.relay_request.specs.Owed.{Owes, IsAnswering, TellsOwed}
+use Rattle.relay_request.specs.Passed.{World, Start, called_to}
+use Rattle.relay_request.specs.Phases.{RunSoFar, IsBroken, IsCalm, IsConnecting, LacksLink, PhaseHolds, IsAt}
+use Rattle.relay_request.specs.Request.{StepsOn, ComesToEnd, ended_after, is_done}
+use Rattle.relay_request.specs.Tries.{tries_in}
+use Rattle.relay_request.specs.Turn.{world_with, world_of, is_over, links_held}
+use Rattle.relay_request.specs.declared.calls.At.{At}
+use Rattle.relay_request.specs.declared.machine.Lease.{Lease}
+use Rattle.relay_request.specs.declared.machine.Phase.{Phase}
+use Rattle.relay_request.specs.declared.machine.Phase.TheVariants.{ReadHead, Connect, Unlinked, Prepare, Relay, Broken, Again, Fail, Close, Answer, Ended}
+use Rattle.relay_request.specs.declared.outcome.Outcome.{Outcome}
+use Rattle.relay_request.specs.declared.work.Work.{Work}
+use Rattle.relay_request.specs.declared.outcome.Outcome.TheVariants.{NoRequest, Refused, Served, TurnLimit, OutOfMemory}
+use Rattle.relay_request.specs.declared.outcome.Processed.{Processed}
+use Rattle.relay_request.specs.declared.owed.Owed.{Owed}
+use Rattle.relay_request.specs.declared.owed.Owed.TheVariants as due
 use Rattle.relay_proxy.specs.declared.proxy.HttpProxy.{HttpProxy}
-use Rattle.relay_proxy.specs.declared.record.AttemptRecord.{AttemptRecord}
-use Rattle.relay_proxy.proofs.EndSteps.{gives_by}
-use Rattle.relay_proxy.proofs.LegLemmas.{behind_called, behind_more, behind_first, behind_most, legs_later, legs_more}
-use Rattle.relay_proxy.proofs.LastCalls.{calls_logged}
+use Rattle.relay_request.specs.declared.record.AttemptRecord.{AttemptRecord}
+use Rattle.relay_turns.proofs.EndSteps.{gives_by}
+use Rattle.relay_turns.proofs.LegLemmas.{behind_called, behind_more, behind_first, behind_most, legs_later, legs_more}
+use Rattle.relay_turns.proofs.LastCalls.{calls_logged}
 use Rattle.relay_server.specs.Serving.{Books, books, CountRises, Visit, HaveEnded, EndedRequest, all_held, AreUnderWay, IsUnderWay, Serves, EndsOne, ServesOn}
 use Rattle.relay_server.specs.Serving.AreEnded.{none, one_more}
 

@@ -4,8 +4,8 @@ use Rattle.std.specs.Prelude.{◌≡◌, ◌⊎◌, ℕ, Bool, true, ◌&&◌, �
 use Rattle.std.specs.List.{insert, position}
 use Rattle.relay_links.specs.declared.Returned.{Returned}
 use Rattle.relay_attempt.specs.Passed.{Passed}
-use Rattle.relay_proxy.specs.Passed.{Start, IsUnsent, asked}
-use Rattle.relay_proxy.specs.Turn.{is_reading_head}
+use Rattle.relay_request.specs.Passed.{Start, IsUnsent, asked}
+use Rattle.relay_request.specs.Turn.{is_reading_head}
 use Rattle.relay_server.specs.Serving.{Visit}
 use Rattle.relay_server.specs.declared.serve.Turn.{Turn}
 use Rattle.relay_server.specs.declared.serve.Turn.TheVariants as turn

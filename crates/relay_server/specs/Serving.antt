@@ -11,22 +11,22 @@ use Rattle.relay_modules.specs.Module.{ModuleCall}
 use Rattle.relay_hooks.specs.Standing.{Standing}
 use Rattle.relay_phases.specs.Order.{Station}
 use Rattle.relay_attempt.specs.Passed.{Passed}
-use Rattle.relay_proxy.specs.Calls.{CallsSoFar, IsLogged, allowed_by, kept_at, log_of}
-use Rattle.relay_proxy.specs.Endings.{IsEnded}
-use Rattle.relay_proxy.specs.Legs.{AreLegs, Leg, behind}
-use Rattle.relay_proxy.specs.Passed.{World, Start, called_to}
-use Rattle.relay_proxy.specs.Phases.{RunSoFar}
-use Rattle.relay_proxy.specs.ClosingHooks.{Gives}
-use Rattle.relay_proxy.specs.Request.{ended_after, is_done}
-use Rattle.relay_proxy.specs.Turn.{world_of, links_held}
-use Rattle.relay_proxy.specs.declared.calls.At.{At}
-use Rattle.relay_proxy.specs.declared.calls.At.TheVariants.{Kept}
-use Rattle.relay_proxy.specs.declared.calls.Calls.{Calls}
-use Rattle.relay_proxy.specs.declared.machine.Phase.{Phase}
-use Rattle.relay_proxy.specs.declared.outcome.Outcome.{Outcome}
-use Rattle.relay_proxy.specs.declared.outcome.Outcome.TheVariants.{NoRequest, Refused, Served, TurnLimit, OutOfMemory}
+use Rattle.relay_request.specs.Calls.{CallsSoFar, IsLogged, allowed_by, kept_at, log_of}
+use Rattle.relay_request.specs.Endings.{IsEnded}
+use Rattle.relay_request.specs.Legs.{AreLegs, Leg, behind}
+use Rattle.relay_request.specs.Passed.{World, Start, called_to}
+use Rattle.relay_request.specs.Phases.{RunSoFar}
+use Rattle.relay_request.specs.ClosingHooks.{Gives}
+use Rattle.relay_request.specs.Request.{ended_after, is_done}
+use Rattle.relay_request.specs.Turn.{world_of, links_held}
+use Rattle.relay_request.specs.declared.calls.At.{At}
+use Rattle.relay_request.specs.declared.calls.At.TheVariants.{Kept}
+use Rattle.relay_request.specs.declared.calls.Calls.{Calls}
+use Rattle.relay_request.specs.declared.machine.Phase.{Phase}
+use Rattle.relay_request.specs.declared.outcome.Outcome.{Outcome}
+use Rattle.relay_request.specs.declared.outcome.Outcome.TheVariants.{NoRequest, Refused, Served, TurnLimit, OutOfMemory}
 use Rattle.relay_proxy.specs.declared.proxy.HttpProxy.{HttpProxy}
-use Rattle.relay_proxy.specs.declared.record.AttemptRecord.{AttemptRecord}
+use Rattle.relay_request.specs.declared.record.AttemptRecord.{AttemptRecord}
 use Rattle.relay_server.specs.declared.open_connection.AfterRequest.{AfterRequest}
 use Rattle.relay_server.specs.declared.open_connection.AfterRequest.TheVariants.{Goes, Ends}
 

@@ -7,7 +7,6 @@ mod open_connection;
 mod serve;
 mod serving_schedule;
 mod stillness;
-#[cfg(test)]
-mod tests;
 
 pub use serve::{ServeEnd, serve_with};
+pub use serving_schedule::ServingSchedule;

@@ -1,11 +1,11 @@
 //! A client's connection that is open, with the request under way on it (RFC 9112, section 9.3).
 ghost use Rattle.std.specs.Prelude.{◌≡◌, ◌≤◌, ◌+◌, ℕ, List, [], ◌∷◌, true, false};
 ghost use Rattle.relay_attempt.specs.Passed.{Passed};
-ghost use Rattle.relay_proxy.specs.Calls.{CallsSoFar, allowed_by, log_of};
-ghost use Rattle.relay_proxy.specs.Passed.{Start};
-ghost use Rattle.relay_proxy.specs.Phases.{RunSoFar};
-ghost use Rattle.relay_proxy.specs.Request.{is_done};
-ghost use Rattle.relay_proxy.specs.Turn.{links_held, is_end, world_of};
+ghost use Rattle.relay_request.specs.Calls.{CallsSoFar, allowed_by, log_of};
+ghost use Rattle.relay_request.specs.Passed.{Start};
+ghost use Rattle.relay_request.specs.Phases.{RunSoFar};
+ghost use Rattle.relay_request.specs.Request.{is_done};
+ghost use Rattle.relay_request.specs.Turn.{links_held, is_end, world_of};
 ghost use Rattle.relay_server.specs.Idle.{is_idle, HasNotBegun};
 ghost use Rattle.relay_server.specs.Serving.{Books, Visit, books, CountRises, all_held, Serves, EndsOne, IsHanded, with_next, is_reused};
 

@@ -5,8 +5,8 @@ ghost use Rattle.std.specs.Prelude.{◌≡◌, ◌≢◌, ◌⊎◌, ◌↔◌, 
 ghost use Rattle.std.specs.List.{position};
 ghost use Rattle.relay_links.specs.Count.{Rose, last_count};
 ghost use Rattle.relay_links.specs.Told.{more};
-ghost use Rattle.relay_proxy.specs.Calls.{allowed_by};
-ghost use Rattle.relay_proxy.specs.Turn.{links_held};
+ghost use Rattle.relay_request.specs.Calls.{allowed_by};
+ghost use Rattle.relay_request.specs.Turn.{links_held};
 ghost use Rattle.relay_server.specs.Idle.{is_idle, GivesWay, IsPutLast, KeepsOrder, IsReplaced};
 ghost use Rattle.relay_server.specs.Listening.{ListensAt};
 ghost use Rattle.relay_server.specs.Serving.{Books, books, CountRises, all_held, HaveEnded, Serves, EndsOne, ServesOn};

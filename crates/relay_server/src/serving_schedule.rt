@@ -17,14 +17,14 @@ enum Response {
 /// bytes that came with it are taken together, and written at once. That read moved something, so
 /// what waits is still asked in turn.
 #[derive(Drop)]
-pub(crate) struct ServingSchedule {
+pub struct ServingSchedule {
     round: RoundRobin,
     response: Response,
 }
 
 impl ServingSchedule {
     /// A schedule that has picked nothing, for one request.
-    pub(crate) fn new() -> ServingSchedule {
+    pub fn new() -> ServingSchedule {
         ServingSchedule {
             round: RoundRobin::new(),
             response: Response::Awaited,

@@ -1,6 +1,6 @@
 -- What was queued waits, or nothing does.
 use Rattle.std.proofs.Common.{false, refl}
-use Rattle.relay_proxy.specs.Calls.{Owing}
+use Rattle.relay_request.specs.Calls.{Owing}
 use Rattle.relay_proxy.proofs.answering.owe.Goals as goal
 
 -- it waits

@@ -1,6 +1,6 @@
 -- More waits, or the answer was written whole.
 use Rattle.std.proofs.Common.{refl}
-use Rattle.relay_proxy.specs.Calls.{Owing}
+use Rattle.relay_request.specs.Calls.{Owing}
 use Rattle.relay_proxy.proofs.answering.took.Goals as goal
 
 -- more waits

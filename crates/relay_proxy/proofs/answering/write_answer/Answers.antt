@@ -1,6 +1,6 @@
 -- One write, where something waits.
 use Rattle.std.proofs.Common.{false, refl}
-use Rattle.relay_proxy.specs.Calls.{Owing}
+use Rattle.relay_request.specs.Calls.{Owing}
 use Rattle.relay_proxy.proofs.answering.write_answer.Goals as goal
 
 -- where nothing waits the session has its client again

@@ -2,13 +2,13 @@
 use Rattle.std.proofs.Common.{◌≡◌, ◌&&◌, Bool, length, refl, rules, ap, subst, sym}
 use Rattle.std.specs.Prelude.{◌==◌}
 use Rattle.relay_session.specs.declared.session.HttpSession.{HttpSession}
-use Rattle.relay_proxy.specs.Turn.{world_of}
-use Rattle.relay_proxy.specs.Owed.{outcome_written}
-use Rattle.relay_proxy.specs.Reuse.{may_ask_again}
-use Rattle.relay_proxy.specs.declared.machine.Phase.TheVariants.{Answer, Ended}
-use Rattle.relay_proxy.proofs.AnswerSteps.{answer_took, answer_waits, answer_silent, answer_fails, answer_memory, taken_of, moved_or_ended}
-use Rattle.relay_proxy.specs.Calls.{Owing}
-use Rattle.relay_proxy.proofs.LastCalls.{owing_as, shows_same}
+use Rattle.relay_request.specs.Turn.{world_of}
+use Rattle.relay_request.specs.Owed.{outcome_written}
+use Rattle.relay_request.specs.Reuse.{may_ask_again}
+use Rattle.relay_request.specs.declared.machine.Phase.TheVariants.{Answer, Ended}
+use Rattle.relay_turns.proofs.AnswerSteps.{answer_took, answer_waits, answer_silent, answer_fails, answer_memory, taken_of, moved_or_ended}
+use Rattle.relay_request.specs.Calls.{Owing}
+use Rattle.relay_turns.proofs.LastCalls.{owing_as, shows_same}
 use Rattle.relay_proxy.proofs.answering.write_on.Goals as goal
 
 -- the client took some

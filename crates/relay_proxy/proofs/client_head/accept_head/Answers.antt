@@ -4,13 +4,13 @@ use Rattle.std.proofs.Common.{List, ap, refl, subst, sym, ◌∙◌}
 use Rattle.relay_tasks.specs.declared.log.LogEntry.{LogEntry}
 use Rattle.relay_session.specs.Response.{has_head}
 use Rattle.relay_session.specs.declared.task_text.Place.{Place}
-use Rattle.relay_proxy.specs.Calls.{IsUnended, allowed_by, log_of}
-use Rattle.relay_proxy.specs.Passed.{World, opened_to}
-use Rattle.relay_proxy.specs.Turn.{world_of}
-use Rattle.relay_proxy.proofs.AgainLemmas.{kept_whole}
-use Rattle.relay_proxy.proofs.CallLemmas.{begun_calls, begun_on, called_logged, none_logged}
-use Rattle.relay_proxy.proofs.HeadSteps.{head_upgrades}
-use Rattle.relay_proxy.proofs.OpenSteps.{head_accepted, stands_first}
+use Rattle.relay_request.specs.Calls.{IsUnended, allowed_by, log_of}
+use Rattle.relay_request.specs.Passed.{World, opened_to}
+use Rattle.relay_request.specs.Turn.{world_of}
+use Rattle.relay_turns.proofs.AgainLemmas.{kept_whole}
+use Rattle.relay_request.proofs.CallLemmas.{begun_calls, begun_on, called_logged, none_logged}
+use Rattle.relay_turns.proofs.HeadSteps.{head_upgrades}
+use Rattle.relay_turns.proofs.OpenSteps.{head_accepted, stands_first}
 use Rattle.relay_proxy.proofs.client_head.accept_head.Goals as goal
 
 -- a head that names Upgrade is left alone

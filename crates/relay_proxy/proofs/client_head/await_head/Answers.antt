@@ -3,9 +3,9 @@ use Rattle.std.proofs.Common.{refl, ap, ◌∙◌, subst, sym, inl, List, ℕ}
 use Rattle.relay_h1.specs.Verdict.{IsOpen}
 use Rattle.relay_links.specs.Link.{LinkState}
 use Rattle.relay_peer.proofs.FaultLemmas.{grew_none, grew_same}
-use Rattle.relay_proxy.specs.Endings.{ended_outcome}
-use Rattle.relay_proxy.proofs.Tells.{sided}
-use Rattle.relay_proxy.proofs.HeadSteps.{head_came, head_waits, head_ends, head_fails}
+use Rattle.relay_request.specs.Endings.{ended_outcome}
+use Rattle.relay_turns.proofs.Tells.{sided}
+use Rattle.relay_turns.proofs.HeadSteps.{head_came, head_waits, head_ends, head_fails}
 use Rattle.relay_proxy.proofs.client_head.await_head.Goals as goal
 
 -- more of the head came

@@ -1,7 +1,7 @@
 -- The answer is the generated one, whole.
 use Rattle.std.proofs.Common.{◌∙◌, ap}
 use Rattle.relay_session.specs.declared.session.HttpSession.{HttpSession}
-use Rattle.relay_proxy.proofs.HeadSteps.{turned_down, begun_answer, unread_sent}
+use Rattle.relay_turns.proofs.HeadSteps.{turned_down, begun_answer, unread_sent}
 use Rattle.relay_proxy.proofs.client_head.give_answer.Goals as goal
 
 -- a head that is turned down is given the generated answer

@@ -1,11 +1,11 @@
 -- The verdict is on the client's bytes as they stood.
 use Rattle.std.proofs.Common.{refl}
 use Rattle.relay_h1.proofs.HeadEndLemmas.{head_end-within}
-use Rattle.relay_proxy.specs.Endings as endings
-use Rattle.relay_proxy.specs.Calls.{log_of}
-use Rattle.relay_proxy.specs.Passed.{opened_to}
-use Rattle.relay_proxy.specs.Turn.{world_of}
-use Rattle.relay_proxy.proofs.CallLemmas.{none_logged, unopened_calls}
+use Rattle.relay_request.specs.Endings as endings
+use Rattle.relay_request.specs.Calls.{log_of}
+use Rattle.relay_request.specs.Passed.{opened_to}
+use Rattle.relay_request.specs.Turn.{world_of}
+use Rattle.relay_request.proofs.CallLemmas.{none_logged, unopened_calls}
 use Rattle.relay_proxy.proofs.client_head.read_head.Goals as goal
 
 -- a head that was found lies within the client's bytes

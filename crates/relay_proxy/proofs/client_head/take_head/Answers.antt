@@ -2,11 +2,11 @@
 use Rattle.std.proofs.Common.{refl, ap, ◌∙◌, Some}
 use Rattle.relay_tasks.specs.declared.Error.{Error}
 use Rattle.relay_tasks.specs.declared.ErrorSource.TheVariants.{Downstream}
-use Rattle.relay_proxy.specs.Endings as endings
-use Rattle.relay_proxy.specs.Calls.{log_of}
-use Rattle.relay_proxy.specs.Passed.{opened_to}
-use Rattle.relay_proxy.specs.Turn.{world_of}
-use Rattle.relay_proxy.proofs.CallLemmas.{unopened_calls}
+use Rattle.relay_request.specs.Endings as endings
+use Rattle.relay_request.specs.Calls.{log_of}
+use Rattle.relay_request.specs.Passed.{opened_to}
+use Rattle.relay_request.specs.Turn.{world_of}
+use Rattle.relay_request.proofs.CallLemmas.{unopened_calls}
 use Rattle.relay_proxy.proofs.client_head.take_head.Goals as goal
 
 -- a head that the entry check refuses is turned down, for the first line that applies

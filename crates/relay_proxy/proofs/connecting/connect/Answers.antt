@@ -1,12 +1,12 @@
 -- Over a link that the connector gave the exchange begins; where it gave none, its count rose.
 use Rattle.std.proofs.Common.{List, ap, refl, sym, ◌∙◌}
-use Rattle.relay_proxy.specs.Refusals.{faults_told}
-use Rattle.relay_proxy.specs.Turn.{world_with}
-use Rattle.relay_proxy.specs.declared.record.AttemptRecord.{AttemptRecord}
-use Rattle.relay_proxy.proofs.CallLemmas.{opening_logged}
-use Rattle.relay_proxy.proofs.HookSteps.{same_peer}
-use Rattle.relay_proxy.proofs.RefusalLemmas.{told_before_link}
-use Rattle.relay_proxy.proofs.TakenLemmas.{none_asked, took_fault, took_link}
+use Rattle.relay_request.specs.Refusals.{faults_told}
+use Rattle.relay_request.specs.Turn.{world_with}
+use Rattle.relay_request.specs.declared.record.AttemptRecord.{AttemptRecord}
+use Rattle.relay_request.proofs.CallLemmas.{opening_logged}
+use Rattle.relay_turns.proofs.HookSteps.{same_peer}
+use Rattle.relay_turns.proofs.RefusalLemmas.{told_before_link}
+use Rattle.relay_turns.proofs.TakenLemmas.{none_asked, took_fault, took_link}
 use Rattle.relay_proxy.proofs.connecting.connect.Goals as goal
 
 -- the run goes on over the link that the connector gave

@@ -4,13 +4,13 @@ use Rattle.std.proofs.Common.{refl, subst}
 use Rattle.relay_hooks.specs.Session.{request_head}
 use Rattle.relay_phases.specs.Order.{named}
 use Rattle.relay_trying.specs.Trying.{may_follow, treated_at}
-use Rattle.relay_proxy.specs.Calls.{TellsPeer, allowed_by, log_of, seen_with}
-use Rattle.relay_proxy.specs.declared.calls.At.{At}
-use Rattle.relay_proxy.proofs.CallLemmas.{logged_same}
-use Rattle.relay_proxy.proofs.ConnectSteps.{not_told, refused_moved, refused_on}
-use Rattle.relay_proxy.proofs.RefusalLemmas.{refused_counts, told_on, told_once}
-use Rattle.relay_proxy.proofs.RefusedCalls.{refused_calls}
-use Rattle.relay_proxy.proofs.Tells.{sided}
+use Rattle.relay_request.specs.Calls.{TellsPeer, allowed_by, log_of, seen_with}
+use Rattle.relay_request.specs.declared.calls.At.{At}
+use Rattle.relay_request.proofs.CallLemmas.{logged_same}
+use Rattle.relay_turns.proofs.ConnectSteps.{not_told, refused_moved, refused_on}
+use Rattle.relay_turns.proofs.RefusalLemmas.{refused_counts, told_on, told_once}
+use Rattle.relay_turns.proofs.RefusedCalls.{refused_calls}
+use Rattle.relay_turns.proofs.Tells.{sided}
 use Rattle.relay_proxy.proofs.connecting.refused_link.Goals as goal
 
 -- the application treated its error, and another attempt follows, or none

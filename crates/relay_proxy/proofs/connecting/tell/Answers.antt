@@ -1,10 +1,10 @@
 -- The application is told of the link, and the head comes next; or the attempt fails.
 use Rattle.std.proofs.Common.{arith, false, refl}
 use Rattle.relay_tasks.specs.declared.error.Fail.TheVariants as fail
-use Rattle.relay_proxy.specs.Calls.{log_of}
-use Rattle.relay_proxy.proofs.CallLemmas.{logged_same, none_called, one_called}
-use Rattle.relay_proxy.proofs.OpenSteps.{called_tells}
-use Rattle.relay_proxy.proofs.PrepareSteps.{ahead_broken, told_badly, told_breaks, told_error, told_calls, told_lost, told_unended, told_well}
+use Rattle.relay_request.specs.Calls.{log_of}
+use Rattle.relay_request.proofs.CallLemmas.{logged_same, none_called, one_called}
+use Rattle.relay_turns.proofs.OpenSteps.{called_tells}
+use Rattle.relay_turns.proofs.PrepareSteps.{ahead_broken, told_badly, told_breaks, told_error, told_calls, told_lost, told_unended, told_well}
 use Rattle.relay_proxy.proofs.connecting.tell.Goals as goal
 
 -- the head comes next

@@ -1,14 +1,14 @@
 -- The error of an attempt is treated; or, where it was treated, another attempt follows, or what
 -- waits for the client is written before, or the error is answered.
 use Rattle.std.proofs.Common.{◌+◌, [], length, inl, refl, subst, sym, ℕ}
-use Rattle.relay_proxy.specs.Calls.{log_of}
-use Rattle.relay_proxy.specs.Passed.{Start, called_to}
-use Rattle.relay_proxy.specs.Phases.{RunSoFar}
-use Rattle.relay_proxy.specs.Tries.{MayTry, tries_in}
-use Rattle.relay_proxy.specs.Turn.{Advances, world_of}
-use Rattle.relay_proxy.specs.declared.machine.Phase.TheVariants as phase
-use Rattle.relay_proxy.proofs.LastCalls.{ahead_calls}
-use Rattle.relay_proxy.proofs.TreatLemmas.{still_open}
+use Rattle.relay_request.specs.Calls.{log_of}
+use Rattle.relay_request.specs.Passed.{Start, called_to}
+use Rattle.relay_request.specs.Phases.{RunSoFar}
+use Rattle.relay_request.specs.Tries.{MayTry, tries_in}
+use Rattle.relay_request.specs.Turn.{Advances, world_of}
+use Rattle.relay_request.specs.declared.machine.Phase.TheVariants as phase
+use Rattle.relay_turns.proofs.LastCalls.{ahead_calls}
+use Rattle.relay_request.proofs.TreatLemmas.{still_open}
 use Rattle.relay_proxy.proofs.failing.fail.Goals as goal
 
 -- it is treated

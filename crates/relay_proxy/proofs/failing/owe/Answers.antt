@@ -1,8 +1,8 @@
 -- What was queued waits, or nothing does.
 use Rattle.std.proofs.Common.{false, refl}
-use Rattle.relay_proxy.specs.Calls.{Owing}
-use Rattle.relay_proxy.specs.Leaving.{Answers}
-use Rattle.relay_proxy.proofs.FailSteps.{none_waits, some_waits}
+use Rattle.relay_request.specs.Calls.{Owing}
+use Rattle.relay_request.specs.Leaving.{Answers}
+use Rattle.relay_turns.proofs.FailSteps.{none_waits, some_waits}
 use Rattle.relay_proxy.proofs.failing.owe.Goals as goal
 
 -- nothing waits

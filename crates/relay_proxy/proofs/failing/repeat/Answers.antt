@@ -4,18 +4,18 @@ use Rattle.std.proofs.Common.{◌≡◌, ◌∙◌, ◌⊎◌, [], List, false, 
 use Rattle.relay_tasks.specs.declared.log.LogEntry.{LogEntry}
 use Rattle.relay_session.specs.Response.{has_head}
 use Rattle.relay_session.specs.declared.task_text.Place.{Place}
-use Rattle.relay_proxy.specs.Calls.{IsUnended, log_of}
-use Rattle.relay_proxy.specs.Passed.{Start}
-use Rattle.relay_proxy.specs.Phases.{RunSoFar}
-use Rattle.relay_proxy.specs.Turn.{Advances}
-use Rattle.relay_proxy.specs.declared.calls.Opened.{Opened}
-use Rattle.relay_proxy.specs.declared.calls.Opened.TheVariants as led
-use Rattle.relay_proxy.specs.declared.machine.Phase.TheVariants as phase
-use Rattle.relay_proxy.specs.declared.outcome.Outcome.TheVariants as outcome
-use Rattle.relay_proxy.proofs.AgainLemmas.{as_begun_parts, kept_whole, unqueued_parts}
-use Rattle.relay_proxy.proofs.CallLemmas.{none_called, one_called, repeats_calls, repeats_logged, repeats_turn, was_treated}
-use Rattle.relay_proxy.proofs.FailSteps.{repeats_called, treated_lost, unasked}
-use Rattle.relay_proxy.proofs.TreatLemmas.{still_open}
+use Rattle.relay_request.specs.Calls.{IsUnended, log_of}
+use Rattle.relay_request.specs.Passed.{Start}
+use Rattle.relay_request.specs.Phases.{RunSoFar}
+use Rattle.relay_request.specs.Turn.{Advances}
+use Rattle.relay_request.specs.declared.calls.Opened.{Opened}
+use Rattle.relay_request.specs.declared.calls.Opened.TheVariants as led
+use Rattle.relay_request.specs.declared.machine.Phase.TheVariants as phase
+use Rattle.relay_request.specs.declared.outcome.Outcome.TheVariants as outcome
+use Rattle.relay_turns.proofs.AgainLemmas.{as_begun_parts, kept_whole, unqueued_parts}
+use Rattle.relay_request.proofs.CallLemmas.{none_called, one_called, repeats_calls, repeats_logged, repeats_turn, was_treated}
+use Rattle.relay_turns.proofs.FailSteps.{repeats_called, treated_lost, unasked}
+use Rattle.relay_request.proofs.TreatLemmas.{still_open}
 use Rattle.relay_proxy.proofs.failing.repeat.Goals as goal
 
 -- another attempt follows

@@ -3,10 +3,10 @@ use Rattle.std.proofs.Common.{List, arith, refl, subst, sym}
 use Rattle.relay_tasks.specs.declared.hook.Hook.TheVariants as hook
 use Rattle.relay_tasks.specs.declared.log.LogEntry.{LogEntry}
 use Rattle.relay_phases.specs.Order.{Station as station}
-use Rattle.relay_proxy.specs.Calls.{IsUnended, log_of}
-use Rattle.relay_proxy.proofs.CallLemmas.{may_treat, none_called, one_called, treated_breaks, untreated_logged}
-use Rattle.relay_proxy.proofs.FailSteps.{treated_lost, treated_on}
-use Rattle.relay_proxy.proofs.TreatLemmas.{unended_more}
+use Rattle.relay_request.specs.Calls.{IsUnended, log_of}
+use Rattle.relay_request.proofs.CallLemmas.{may_treat, none_called, one_called, treated_breaks, untreated_logged}
+use Rattle.relay_turns.proofs.FailSteps.{treated_lost, treated_on}
+use Rattle.relay_request.proofs.TreatLemmas.{unended_more}
 use Rattle.relay_proxy.proofs.failing.treat_broken.Goals as goal
 
 -- it is treated

@@ -3,10 +3,10 @@ use Rattle.std.proofs.Common.{◌++◌, refl, subst, take}
 use Rattle.relay_h1.specs.Move.{taken}
 use Rattle.relay_session.specs.Response.{Holds, pending}
 use Rattle.relay_session.specs.declared.session.HttpSession.{HttpSession}
-use Rattle.relay_proxy.specs.Leaving.{WritesAhead}
-use Rattle.relay_proxy.specs.Turn.{world_of}
-use Rattle.relay_proxy.proofs.AheadSteps.{ahead_memory, ahead_offered, some_ahead}
-use Rattle.relay_proxy.proofs.LastCalls.{shows_same}
+use Rattle.relay_request.specs.Leaving.{WritesAhead}
+use Rattle.relay_request.specs.Turn.{world_of}
+use Rattle.relay_turns.proofs.AheadSteps.{ahead_memory, ahead_offered, some_ahead}
+use Rattle.relay_turns.proofs.LastCalls.{shows_same}
 use Rattle.relay_proxy.proofs.failing.write_ahead.Goals as goal
 
 -- what was offered was taken, in part or not at all, or the write failed

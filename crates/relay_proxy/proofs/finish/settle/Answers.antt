@@ -1,6 +1,6 @@
 -- A phase that is not to be closed stays as it is.
 use Rattle.std.proofs.Common.{sym, ◌∙◌}
-use Rattle.relay_proxy.proofs.TurnLemmas.{open_settles}
+use Rattle.relay_turns.proofs.TurnLemmas.{open_settles}
 use Rattle.relay_proxy.proofs.finish.settle.Goals as goal
 
 -- nothing is handed back

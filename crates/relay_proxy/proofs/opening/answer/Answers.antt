@@ -6,20 +6,20 @@ use Rattle.relay_tasks.specs.declared.hook.Hook.TheVariants as hook
 use Rattle.relay_tasks.specs.declared.log.LogEntry.{LogEntry}
 use Rattle.relay_phases.specs.Order.{Accepts, Station}
 use Rattle.relay_phases.specs.Order.{Station as station}
-use Rattle.relay_proxy.specs.Ahead.{IsStoppedFor}
-use Rattle.relay_proxy.specs.Calls.{IsUnended, log_of}
-use Rattle.relay_proxy.specs.Passed.{Start, called_to}
-use Rattle.relay_proxy.specs.Phases.{RunSoFar}
-use Rattle.relay_proxy.specs.Tries.{refusals_in}
-use Rattle.relay_proxy.specs.Turn.{Advances}
-use Rattle.relay_proxy.specs.declared.machine.Phase.TheVariants as phase
-use Rattle.relay_proxy.specs.declared.outcome.Outcome.TheVariants as outcome
-use Rattle.relay_proxy.proofs.CallLemmas.{logged_same, none_called, one_called}
-use Rattle.relay_proxy.proofs.LastCalls.{counted_still, opening_ends, owing_log, owing_on}
-use Rattle.relay_proxy.proofs.ClosingSteps.{answered_by, queued_by}
-use Rattle.relay_proxy.proofs.HookSteps.{final_fails, final_station}
-use Rattle.relay_proxy.proofs.OpenSteps.{called_tries, closed_tries, error_answered, hooks_leave, hooks_lost}
-use Rattle.relay_proxy.proofs.TreatLemmas.{ends_with, still_open}
+use Rattle.relay_request.specs.Ahead.{IsStoppedFor}
+use Rattle.relay_request.specs.Calls.{IsUnended, log_of}
+use Rattle.relay_request.specs.Passed.{Start, called_to}
+use Rattle.relay_request.specs.Phases.{RunSoFar}
+use Rattle.relay_request.specs.Tries.{refusals_in}
+use Rattle.relay_request.specs.Turn.{Advances}
+use Rattle.relay_request.specs.declared.machine.Phase.TheVariants as phase
+use Rattle.relay_request.specs.declared.outcome.Outcome.TheVariants as outcome
+use Rattle.relay_request.proofs.CallLemmas.{logged_same, none_called, one_called}
+use Rattle.relay_turns.proofs.LastCalls.{counted_still, opening_ends, owing_log, owing_on}
+use Rattle.relay_request.proofs.ClosingSteps.{answered_by, queued_by}
+use Rattle.relay_turns.proofs.HookSteps.{final_fails, final_station}
+use Rattle.relay_turns.proofs.OpenSteps.{called_tries, closed_tries, error_answered, hooks_leave, hooks_lost}
+use Rattle.relay_request.proofs.TreatLemmas.{ends_with, still_open}
 use Rattle.relay_proxy.proofs.opening.answer.Goals as goal
 
 -- it was answered

@@ -1,14 +1,14 @@
 -- The hook that comes next is called, and the request goes on, or ends.
 use Rattle.std.proofs.Common.{List, [], None, ap, arith, refl, subst, sym, ◌∙◌}
 use Rattle.relay_tasks.specs.declared.log.LogEntry.{LogEntry}
-use Rattle.relay_proxy.specs.Calls.{IsOwing, IsUnended, allowed_by, log_of}
-use Rattle.relay_proxy.specs.Passed.{opened_to}
-use Rattle.relay_proxy.specs.Turn.{Advances}
-use Rattle.relay_proxy.specs.declared.calls.Calls.{Calls}
-use Rattle.relay_proxy.specs.declared.owed.Owed.TheVariants as owing
-use Rattle.relay_proxy.proofs.LastCalls.{counted_still, owing_log, owing_on}
-use Rattle.relay_proxy.proofs.HookSteps.{answered, answered_owing, counts_called, goes_connecting, known_at, memory_called, memory_logged, opening_on, refusals, unended, untreated}
-use Rattle.relay_proxy.proofs.OpenSteps.{called_tries, hooks_leave, hooks_lost, none_tried, opened_on}
+use Rattle.relay_request.specs.Calls.{IsOwing, IsUnended, allowed_by, log_of}
+use Rattle.relay_request.specs.Passed.{opened_to}
+use Rattle.relay_request.specs.Turn.{Advances}
+use Rattle.relay_request.specs.declared.calls.Calls.{Calls}
+use Rattle.relay_request.specs.declared.owed.Owed.TheVariants as owing
+use Rattle.relay_turns.proofs.LastCalls.{counted_still, owing_log, owing_on}
+use Rattle.relay_turns.proofs.HookSteps.{answered, answered_owing, counts_called, goes_connecting, known_at, memory_called, memory_logged, opening_on, refusals, unended, untreated}
+use Rattle.relay_turns.proofs.OpenSteps.{called_tries, hooks_leave, hooks_lost, none_tried, opened_on}
 use Rattle.relay_proxy.proofs.opening.open.Goals as goal
 
 -- it goes on

@@ -1,17 +1,17 @@
 -- An error is answered, or the hook that comes next is called; where neither is due, the connector
 -- is asked.
 use Rattle.std.proofs.Common.{[], List, ap, refl, sym, subst, ◌∙◌}
-use Rattle.relay_proxy.specs.Calls.{log_of, station_at}
-use Rattle.relay_proxy.specs.Passed.{Start}
-use Rattle.relay_proxy.specs.Phases.{RunSoFar}
-use Rattle.relay_proxy.specs.Refusals.{faults_told}
-use Rattle.relay_proxy.specs.Turn.{Advances, world_with}
-use Rattle.relay_proxy.specs.declared.machine.Phase.TheVariants as phase
-use Rattle.relay_proxy.specs.declared.record.AttemptRecord.{AttemptRecord}
-use Rattle.relay_proxy.proofs.LastCalls.{calls_logged}
-use Rattle.relay_proxy.proofs.PurgeSteps.{asks_nothing, final_unpurged, opens_elsewhere}
-use Rattle.relay_proxy.proofs.TakenLemmas.{none_asked}
-use Rattle.relay_proxy.proofs.TreatLemmas.{still_open}
+use Rattle.relay_request.specs.Calls.{log_of, station_at}
+use Rattle.relay_request.specs.Passed.{Start}
+use Rattle.relay_request.specs.Phases.{RunSoFar}
+use Rattle.relay_request.specs.Refusals.{faults_told}
+use Rattle.relay_request.specs.Turn.{Advances, world_with}
+use Rattle.relay_request.specs.declared.machine.Phase.TheVariants as phase
+use Rattle.relay_request.specs.declared.record.AttemptRecord.{AttemptRecord}
+use Rattle.relay_turns.proofs.LastCalls.{calls_logged}
+use Rattle.relay_turns.proofs.PurgeSteps.{asks_nothing, final_unpurged, opens_elsewhere}
+use Rattle.relay_turns.proofs.TakenLemmas.{none_asked}
+use Rattle.relay_request.proofs.TreatLemmas.{still_open}
 use Rattle.relay_proxy.proofs.opening.reach.Goals as goal
 
 -- an error is answered

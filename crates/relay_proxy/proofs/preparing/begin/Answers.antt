@@ -1,7 +1,7 @@
 -- The exchange is under way over the link and its attempt is held, or memory was wanted for one of
 -- both.
 use Rattle.std.proofs.Common.{refl}
-use Rattle.relay_proxy.proofs.PrepareSteps.{begun, memory_alone, not_begun}
+use Rattle.relay_turns.proofs.PrepareSteps.{begun, memory_alone, not_begun}
 use Rattle.relay_proxy.proofs.preparing.begin.Goals as goal
 
 -- the exchange is under way over the link that was handed out

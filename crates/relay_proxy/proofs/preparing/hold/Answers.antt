@@ -1,5 +1,5 @@
 -- An attempt that is held goes on; one that is not gives its link back.
-use Rattle.relay_proxy.proofs.PrepareSteps.{held, not_held}
+use Rattle.relay_turns.proofs.PrepareSteps.{held, not_held}
 use Rattle.relay_proxy.proofs.preparing.hold.Goals as goal
 
 -- an attempt that is held is relayed

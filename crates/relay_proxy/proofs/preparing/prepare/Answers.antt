@@ -2,10 +2,10 @@
 use Rattle.std.proofs.Common.{true, refl, ◌∙◌}
 use Rattle.relay_tasks.specs.declared.error.Fail.TheVariants as fail
 use Rattle.relay_phases.specs.Order.{Station as station}
-use Rattle.relay_proxy.specs.Calls.{log_of}
-use Rattle.relay_proxy.proofs.CallLemmas.{begun_exchange, one_called}
-use Rattle.relay_proxy.proofs.OpenSteps.{called_tells}
-use Rattle.relay_proxy.proofs.PrepareSteps.{ahead_broken, filtered_badly, filtered_logged, filtered_lost, filtered_relays, filtered_well, lost_counts, lost_logged, made_unended, makes_error, unsent_breaks, unsent_counts}
+use Rattle.relay_request.specs.Calls.{log_of}
+use Rattle.relay_request.proofs.CallLemmas.{begun_exchange, one_called}
+use Rattle.relay_turns.proofs.OpenSteps.{called_tells}
+use Rattle.relay_turns.proofs.PrepareSteps.{ahead_broken, filtered_badly, filtered_logged, filtered_lost, filtered_relays, filtered_well, lost_counts, lost_logged, made_unended, makes_error, unsent_breaks, unsent_counts}
 use Rattle.relay_proxy.proofs.preparing.prepare.Goals as goal
 
 -- the head that is sent has a framing

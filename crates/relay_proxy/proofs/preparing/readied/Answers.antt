@@ -1,5 +1,5 @@
 -- The copy is that of the session's head.
-use Rattle.relay_proxy.proofs.SentLemmas.{readies_as}
+use Rattle.relay_turns.proofs.SentLemmas.{readies_as}
 use Rattle.relay_proxy.proofs.preparing.readied.Goals as goal
 
 -- it is made ready, or refused

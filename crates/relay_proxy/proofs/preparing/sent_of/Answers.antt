@@ -1,6 +1,6 @@
 -- The head is made in three steps, of which the second is the call of the filter.
 use Rattle.std.proofs.lemmas.Result.{err_from_is_err_and}
-use Rattle.relay_proxy.proofs.PrepareSteps.{filter_fails, settles_on}
+use Rattle.relay_turns.proofs.PrepareSteps.{filter_fails, settles_on}
 use Rattle.relay_proxy.proofs.preparing.sent_of.Goals as goal
 
 -- the filter failed

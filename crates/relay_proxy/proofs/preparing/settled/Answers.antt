@@ -1,5 +1,5 @@
 -- What the filter left is made as it is sent beside the session's own head.
-use Rattle.relay_proxy.proofs.SentLemmas.{settles_as, unsettled_as}
+use Rattle.relay_turns.proofs.SentLemmas.{settles_as, unsettled_as}
 use Rattle.relay_proxy.proofs.preparing.settled.Goals as goal
 
 -- it is made, and has a framing or none

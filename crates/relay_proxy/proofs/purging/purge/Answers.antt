@@ -1,17 +1,17 @@
 -- The purger's answer is owed, or memory was wanted.
 use Rattle.std.proofs.Common.{List, [], None, ap, arith, refl, subst, sym, ◌∙◌}
 use Rattle.relay_tasks.specs.declared.log.LogEntry.{LogEntry}
-use Rattle.relay_proxy.specs.Calls.{IsOwing, IsUnended, allowed_by, log_of}
-use Rattle.relay_proxy.specs.Passed.{opened_to}
-use Rattle.relay_proxy.specs.Purging.{AsksPurger}
-use Rattle.relay_proxy.specs.Turn.{Advances}
-use Rattle.relay_proxy.specs.declared.calls.Calls.{Calls}
-use Rattle.relay_proxy.specs.declared.owed.Owed.TheVariants as owing
+use Rattle.relay_request.specs.Calls.{IsOwing, IsUnended, allowed_by, log_of}
+use Rattle.relay_request.specs.Passed.{opened_to}
+use Rattle.relay_request.specs.Purging.{AsksPurger}
+use Rattle.relay_request.specs.Turn.{Advances}
+use Rattle.relay_request.specs.declared.calls.Calls.{Calls}
+use Rattle.relay_request.specs.declared.owed.Owed.TheVariants as owing
 use Rattle.relay_purging.specs.declared.turn.End.TheVariants as end
-use Rattle.relay_proxy.proofs.CallLemmas.{one_called}
-use Rattle.relay_proxy.proofs.LastCalls.{counted_still, owing_log, owing_on}
-use Rattle.relay_proxy.proofs.OpenSteps.{called_tries, hooks_leave, hooks_lost, none_tried}
-use Rattle.relay_proxy.proofs.PurgeSteps.{asks_lost, asks_once, purge_before, purge_leaves, purge_logged, purge_memory, purge_owing, purge_refusals, purge_unended, purge_untreated}
+use Rattle.relay_request.proofs.CallLemmas.{one_called}
+use Rattle.relay_turns.proofs.LastCalls.{counted_still, owing_log, owing_on}
+use Rattle.relay_turns.proofs.OpenSteps.{called_tries, hooks_leave, hooks_lost, none_tried}
+use Rattle.relay_turns.proofs.PurgeSteps.{asks_lost, asks_once, purge_before, purge_leaves, purge_logged, purge_memory, purge_owing, purge_refusals, purge_unended, purge_untreated}
 use Rattle.relay_proxy.proofs.purging.purge.Goals as goal
 
 -- its answer is owed

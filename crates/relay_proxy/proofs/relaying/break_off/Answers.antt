@@ -1,5 +1,5 @@
 -- The attempt is broken, with its session; or memory was wanted for that.
-use Rattle.relay_proxy.proofs.FailSteps.{leaves_part, left_broken, left_memory}
+use Rattle.relay_turns.proofs.FailSteps.{leaves_part, left_broken, left_memory}
 use Rattle.relay_proxy.proofs.relaying.break_off.Goals as goal
 
 -- it is held

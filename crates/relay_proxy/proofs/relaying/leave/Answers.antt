@@ -1,5 +1,5 @@
 -- The error of a failed exchange is to be treated, or memory was wanted.
-use Rattle.relay_proxy.proofs.FailSteps.{left_memory}
+use Rattle.relay_turns.proofs.FailSteps.{left_memory}
 use Rattle.relay_proxy.proofs.relaying.leave.Goals as goal
 
 -- memory was wanted

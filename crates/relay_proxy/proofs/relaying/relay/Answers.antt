@@ -2,10 +2,10 @@
 use Rattle.std.proofs.Common.{◌≡◌, refl, ap, ◌∙◌, inl, inr}
 use Rattle.relay_tasks.specs.declared.took.Pause.TheVariants.{NotReady, Silent}
 use Rattle.relay_core.specs.declared.step.Step.TheVariants as step
-use Rattle.relay_proxy.specs.Turn.{world_of}
-use Rattle.relay_proxy.proofs.AnswerSteps.{moved_or_ended}
-use Rattle.relay_proxy.proofs.BoundLemmas.{relay_moved, relay_waited, relay_finished, relay_failed}
-use Rattle.relay_proxy.proofs.RelaySteps.{kept_within, failed_keeps, finished_keeps, moved_within, waited_within, finished_within, failed_within, moved_by, moved_cause, failed_cause, waited_cause, silent_cause, moved_uses_within, waited_uses_within, silent_uses_within, finished_uses_within, failed_uses_within, moved_counts_within, waited_counts_within, silent_counts_within, finished_counts_within, failed_counts_within}
+use Rattle.relay_request.specs.Turn.{world_of}
+use Rattle.relay_turns.proofs.AnswerSteps.{moved_or_ended}
+use Rattle.relay_turns.proofs.BoundLemmas.{relay_moved, relay_waited, relay_finished, relay_failed}
+use Rattle.relay_turns.proofs.RelaySteps.{kept_within, failed_keeps, finished_keeps, moved_within, waited_within, finished_within, failed_within, moved_by, moved_cause, failed_cause, waited_cause, silent_cause, moved_uses_within, waited_uses_within, silent_uses_within, finished_uses_within, failed_uses_within, moved_counts_within, waited_counts_within, silent_counts_within, finished_counts_within, failed_counts_within}
 use Rattle.relay_proxy.proofs.relaying.relay.Goals as goal
 
 -- the exchange moved

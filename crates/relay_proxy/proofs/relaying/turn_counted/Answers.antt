@@ -1,6 +1,6 @@
 -- What a turn of an exchange says, and the counts of uses that were read around it.
 use Rattle.relay_attempt.specs.Head.{link_of}
-use Rattle.relay_proxy.proofs.UseLemmas.{measured}
+use Rattle.relay_turns.proofs.UseLemmas.{measured}
 use Rattle.relay_proxy.proofs.relaying.turn_counted.Goals as goal
 
 -- the turn is the exchange's own, and the counts are those of its links

@@ -1,6 +1,6 @@
 -- A turn of the exchange that the phase holds is one of the phase.
 use Rattle.std.proofs.Common.{refl}
-use Rattle.relay_proxy.proofs.RelaySteps.{lent_turn}
+use Rattle.relay_turns.proofs.RelaySteps.{lent_turn}
 use Rattle.relay_proxy.proofs.relaying.turn_within.Goals as goal
 
 -- the attempt that its pointer lends is the one that the phase holds

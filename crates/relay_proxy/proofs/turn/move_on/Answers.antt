@@ -3,24 +3,24 @@
 use Rattle.std.proofs.Common.{[], ◌++◌, List, Some, refl, sym, ap, subst, ◌∙◌, inr, true≢false, append-nil, arith}
 use Rattle.relay_tasks.specs.declared.Fault.{Fault}
 use Rattle.relay_links.specs.Told.{Gains}
-use Rattle.relay_proxy.specs.Refusals.{faults_told}
-use Rattle.relay_proxy.specs.declared.record.AttemptRecord.{AttemptRecord}
+use Rattle.relay_request.specs.Refusals.{faults_told}
+use Rattle.relay_request.specs.declared.record.AttemptRecord.{AttemptRecord}
 use Rattle.relay_tasks.specs.declared.log.LogEntry.{LogEntry}
 use Rattle.relay_phases.specs.Order.{next_behind}
 use Rattle.relay_phases.specs.Order.{Station as station}
-use Rattle.relay_proxy.specs.Calls.{log_of, purge_at, station_at}
-use Rattle.relay_proxy.specs.Purging.{AsksPurger}
-use Rattle.relay_proxy.specs.declared.calls.At.{At}
-use Rattle.relay_proxy.specs.Passed.{called_to}
-use Rattle.relay_proxy.specs.Turn.{world_of}
-use Rattle.relay_proxy.proofs.BoundLemmas.{answer_bounds, head_turn_bounds, link_turn_bounds, send_turn_bounds, treat_turn_bounds}
-use Rattle.relay_proxy.proofs.RefusalLemmas.{none_added, none_unmade, others_told}
-use Rattle.relay_proxy.proofs.TakenLemmas.{takes_nothing, takes_more, took_more, one_out, no_offers}
-use Rattle.relay_proxy.proofs.TurnLemmas.{broken_counts, broken_faults, broken_offers, broken_turn, head_turn, connect_turn, none_unended, open_step, prepare_turn, head_counts, still_counts, connect_counts, prepare_counts, prepare_faults, prepare_offers, unlinked_asked, unlinked_offers, unlinked_open, unlinked_turn, unlinked_turn_bounds, answer_offers}
-use Rattle.relay_proxy.proofs.CallLemmas.{none_called}
-use Rattle.relay_proxy.proofs.CountLemmas.{client_both}
-use Rattle.relay_proxy.proofs.LastCalls.{calls_logged, owing_on}
-use Rattle.relay_proxy.proofs.PurgeSteps.{asks_nothing, asks_still, breaks_elsewhere, fails_elsewhere, opens_elsewhere}
+use Rattle.relay_request.specs.Calls.{log_of, purge_at, station_at}
+use Rattle.relay_request.specs.Purging.{AsksPurger}
+use Rattle.relay_request.specs.declared.calls.At.{At}
+use Rattle.relay_request.specs.Passed.{called_to}
+use Rattle.relay_request.specs.Turn.{world_of}
+use Rattle.relay_turns.proofs.BoundLemmas.{answer_bounds, head_turn_bounds, link_turn_bounds, send_turn_bounds, treat_turn_bounds}
+use Rattle.relay_turns.proofs.RefusalLemmas.{none_added, none_unmade, others_told}
+use Rattle.relay_turns.proofs.TakenLemmas.{takes_nothing, takes_more, took_more, one_out, no_offers}
+use Rattle.relay_turns.proofs.TurnLemmas.{broken_counts, broken_faults, broken_offers, broken_turn, head_turn, connect_turn, none_unended, open_step, prepare_turn, head_counts, still_counts, connect_counts, prepare_counts, prepare_faults, prepare_offers, unlinked_asked, unlinked_offers, unlinked_open, unlinked_turn, unlinked_turn_bounds, answer_offers}
+use Rattle.relay_request.proofs.CallLemmas.{none_called}
+use Rattle.relay_turns.proofs.CountLemmas.{client_both}
+use Rattle.relay_turns.proofs.LastCalls.{calls_logged, owing_on}
+use Rattle.relay_turns.proofs.PurgeSteps.{asks_nothing, asks_still, breaks_elsewhere, fails_elsewhere, opens_elsewhere}
 use Rattle.relay_proxy.proofs.turn.move_on.Goals as goal
 
 -- a turn that reads the head is a turn

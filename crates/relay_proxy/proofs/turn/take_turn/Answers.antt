@@ -1,15 +1,15 @@
 -- A turn of a phase that relays asks no connector, and is a turn of the request.
 use Rattle.std.proofs.Common.{◌+◌, refl, sym, ◌∙◌}
-use Rattle.relay_proxy.specs.Calls.{log_of}
-use Rattle.relay_proxy.specs.Passed.{called_to}
-use Rattle.relay_proxy.specs.Turn.{world_of}
-use Rattle.relay_proxy.proofs.BoundLemmas.{relay_turn_bounds}
-use Rattle.relay_proxy.proofs.CallLemmas.{none_called}
-use Rattle.relay_proxy.proofs.LastCalls.{relaying_calls}
-use Rattle.relay_proxy.proofs.PurgeSteps.{asks_still}
-use Rattle.relay_proxy.proofs.RefusalLemmas.{none_added}
-use Rattle.relay_proxy.proofs.TakenLemmas.{takes_nothing}
-use Rattle.relay_proxy.proofs.TurnLemmas.{relaying_turn, relaying_rests, relaying_uses, relaying_counts, relaying_works, relaying_tells, relaying_unrefused, relaying_takes, relaying_carries, not_relaying}
+use Rattle.relay_request.specs.Calls.{log_of}
+use Rattle.relay_request.specs.Passed.{called_to}
+use Rattle.relay_request.specs.Turn.{world_of}
+use Rattle.relay_turns.proofs.BoundLemmas.{relay_turn_bounds}
+use Rattle.relay_request.proofs.CallLemmas.{none_called}
+use Rattle.relay_turns.proofs.LastCalls.{relaying_calls}
+use Rattle.relay_turns.proofs.PurgeSteps.{asks_still}
+use Rattle.relay_turns.proofs.RefusalLemmas.{none_added}
+use Rattle.relay_turns.proofs.TakenLemmas.{takes_nothing}
+use Rattle.relay_turns.proofs.TurnLemmas.{relaying_turn, relaying_rests, relaying_uses, relaying_counts, relaying_works, relaying_tells, relaying_unrefused, relaying_takes, relaying_carries, not_relaying}
 use Rattle.relay_proxy.proofs.turn.take_turn.Goals as goal
 
 -- a turn of the attempt is a turn

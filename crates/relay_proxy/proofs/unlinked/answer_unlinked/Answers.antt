@@ -5,17 +5,17 @@ use Rattle.relay_tasks.specs.declared.hook.Hook.{Hook}
 use Rattle.relay_tasks.specs.declared.hook.Hook.TheVariants as hook
 use Rattle.relay_tasks.specs.declared.log.LogEntry.{LogEntry}
 use Rattle.relay_phases.specs.Order.{Station as station}
-use Rattle.relay_proxy.specs.Calls.{log_of}
-use Rattle.relay_proxy.specs.Passed.{Start, called_to}
-use Rattle.relay_proxy.specs.Phases.{RunSoFar}
-use Rattle.relay_proxy.specs.Turn.{Advances}
-use Rattle.relay_proxy.specs.declared.machine.Phase.TheVariants as phase
-use Rattle.relay_proxy.specs.declared.outcome.Outcome.TheVariants as outcome
-use Rattle.relay_proxy.proofs.CallLemmas.{none_called, one_called}
-use Rattle.relay_proxy.proofs.ClosingSteps.{answered_by, queued_by}
-use Rattle.relay_proxy.proofs.LastCalls.{counted_still, lacking_ends, lacking_same, owing_log, owing_on}
-use Rattle.relay_proxy.proofs.TreatLemmas.{ends_with, still_open}
-use Rattle.relay_proxy.proofs.UnlinkedSteps.{left_answered, unlinked_leave, unlinked_lost}
+use Rattle.relay_request.specs.Calls.{log_of}
+use Rattle.relay_request.specs.Passed.{Start, called_to}
+use Rattle.relay_request.specs.Phases.{RunSoFar}
+use Rattle.relay_request.specs.Turn.{Advances}
+use Rattle.relay_request.specs.declared.machine.Phase.TheVariants as phase
+use Rattle.relay_request.specs.declared.outcome.Outcome.TheVariants as outcome
+use Rattle.relay_request.proofs.CallLemmas.{none_called, one_called}
+use Rattle.relay_request.proofs.ClosingSteps.{answered_by, queued_by}
+use Rattle.relay_turns.proofs.LastCalls.{counted_still, lacking_ends, lacking_same, owing_log, owing_on}
+use Rattle.relay_request.proofs.TreatLemmas.{ends_with, still_open}
+use Rattle.relay_turns.proofs.UnlinkedSteps.{left_answered, unlinked_leave, unlinked_lost}
 use Rattle.relay_proxy.proofs.unlinked.answer_unlinked.Goals as goal
 
 -- it was answered

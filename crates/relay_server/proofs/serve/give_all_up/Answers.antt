@@ -1,6 +1,6 @@
 -- One more connection is given up.
 use Rattle.std.proofs.Common.{◌∙◌, List, arith, subst}
-use Rattle.relay_proxy.specs.Calls.{allowed_by}
+use Rattle.relay_request.specs.Calls.{allowed_by}
 use Rattle.relay_server.specs.Serving.{Visit, books, Serves}
 use Rattle.relay_server.proofs.ServingLemmas.{on_given_up, on_then}
 use Rattle.relay_server.proofs.serve.give_all_up.Goals as goal

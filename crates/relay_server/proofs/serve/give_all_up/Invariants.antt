@@ -1,6 +1,6 @@
 -- What holds between two connections that are given up.
 use Rattle.std.proofs.Common.{◌≡◌, ◌≤◌, length}
-use Rattle.relay_proxy.specs.Calls.{allowed_by}
+use Rattle.relay_request.specs.Calls.{allowed_by}
 use Rattle.relay_server.specs.Serving.{Books, books, Serves, ServesOn}
 use Rattle.relay_server.proofs.serve.give_all_up.Given as goal
 

@@ -1,6 +1,6 @@
 -- From no request under way to none again.
 use Rattle.std.proofs.Common.{◌≡◌, ◌∙◌, ap, arith, inl, inr}
-use Rattle.relay_proxy.specs.Calls.{allowed_by}
+use Rattle.relay_request.specs.Calls.{allowed_by}
 use Rattle.relay_proxy.specs.declared.proxy.HttpProxy.{HttpProxy}
 use Rattle.relay_server.specs.Serving.{books}
 use Rattle.relay_server.proofs.ServingLemmas.{first_serves, last_serves, none_ended}

@@ -8,7 +8,7 @@ use Rattle.relay_links.specs.declared.connector.Returned.{Returned}
 use Rattle.relay_links.specs.declared.script_connector.ScriptConnector.{ScriptConnector}
 use Rattle.relay_links.specs.declared.script_link.ScriptLink.{ScriptLink}
 use Rattle.relay_links.specs.declared.memory_purger.MemoryPurger.{MemoryPurger}
-use Rattle.relay_proxy.specs.declared.outcome.Outcome.TheVariants.{OutOfMemory}
+use Rattle.relay_request.specs.declared.outcome.Outcome.TheVariants.{OutOfMemory}
 use Rattle.relay_proxy.specs.declared.proxy.HttpProxy.{HttpProxy}
 use Rattle.relay_scripted.specs.declared.proxy.ScriptProxy.{ScriptProxy}
 use Rattle.relay_command.specs.Exchange.{reported, taken_of, StartWithin}

@@ -1,12 +1,12 @@
 -- The turn and its settling are a step, but for the hooks of the end.
 use Rattle.std.proofs.Common.{List, ap}
 use Rattle.relay_tasks.specs.declared.log.LogEntry.{LogEntry}
-use Rattle.relay_proxy.specs.Calls.{log_of}
-use Rattle.relay_proxy.specs.Passed.{called_to}
-use Rattle.relay_proxy.specs.declared.work.Work.{Work}
-use Rattle.relay_proxy.proofs.PurgeSteps.{settled_purger}
-use Rattle.relay_proxy.proofs.StepLemmas.{step_on, settled_cause}
-use Rattle.relay_proxy.proofs.UseLemmas.{moves_on, settled_moves, settled_uses}
+use Rattle.relay_request.specs.Calls.{log_of}
+use Rattle.relay_request.specs.Passed.{called_to}
+use Rattle.relay_request.specs.declared.work.Work.{Work}
+use Rattle.relay_turns.proofs.PurgeSteps.{settled_purger}
+use Rattle.relay_turns.proofs.StepLemmas.{step_on, settled_cause}
+use Rattle.relay_turns.proofs.UseLemmas.{moves_on, settled_moves, settled_uses}
 use Rattle.relay_proxy.proofs.proxy.HttpProxy.advance.Goals as goal
 
 -- a turn that was settled is a step

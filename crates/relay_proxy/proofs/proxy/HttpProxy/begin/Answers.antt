@@ -1,7 +1,7 @@
 -- A request that begins has passed nothing.
 use Rattle.std.proofs.Common.{refl}
-use Rattle.relay_proxy.specs.Turn.{world_of}
-use Rattle.relay_proxy.proofs.HeadSteps.{begins_reading}
+use Rattle.relay_request.specs.Turn.{world_of}
+use Rattle.relay_turns.proofs.HeadSteps.{begins_reading}
 use Rattle.relay_proxy.proofs.proxy.HttpProxy.begin.Goals as goal
 
 -- a request that begins reads its head, and nothing has passed

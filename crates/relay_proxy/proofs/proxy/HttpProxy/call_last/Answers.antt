@@ -1,5 +1,5 @@
 -- A hook of the end is called, and counted.
-use Rattle.relay_proxy.proofs.EndSteps.{ends_served}
+use Rattle.relay_turns.proofs.EndSteps.{ends_served}
 use Rattle.relay_proxy.proofs.proxy.HttpProxy.call_last.Goals as goal
 
 -- one is called only where one comes next

@@ -1,9 +1,9 @@
 -- The machine's phase is brought to its end.
 use Rattle.std.proofs.Common.{◌∙◌}
-use Rattle.relay_proxy.specs.Calls.{allowed_by}
-use Rattle.relay_proxy.specs.Turn.{world_of}
-use Rattle.relay_proxy.proofs.EndSteps.{finishes_came, keeps_by, lost_gives, undone_limit}
-use Rattle.relay_proxy.proofs.StepLemmas.{end_of, over_end}
+use Rattle.relay_request.specs.Calls.{allowed_by}
+use Rattle.relay_request.specs.Turn.{world_of}
+use Rattle.relay_turns.proofs.EndSteps.{finishes_came, keeps_by, lost_gives, undone_limit}
+use Rattle.relay_turns.proofs.StepLemmas.{end_of, over_end}
 use Rattle.relay_proxy.proofs.proxy.HttpProxy.end.Goals as goal
 
 -- a run comes to its end as its phase is brought there

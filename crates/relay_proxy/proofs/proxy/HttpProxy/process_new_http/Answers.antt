@@ -3,18 +3,18 @@ use Rattle.std.proofs.Common.{◌≡◌, List, [], ◌∙◌, ◌+◌, ◌≤◌
 use Rattle.relay_tasks.specs.declared.log.LogEntry.{LogEntry}
 use Rattle.relay_links.specs.Count.{last_count}
 use Rattle.relay_phases.specs.Order.{Station}
-use Rattle.relay_proxy.specs.Calls.{IsLogged, allowed_by, log_of}
-use Rattle.relay_proxy.specs.Legs.{behind}
-use Rattle.relay_proxy.specs.Passed.{called_to, start_of}
-use Rattle.relay_proxy.specs.Request.{Processes}
-use Rattle.relay_proxy.specs.Turn.{world_of}
+use Rattle.relay_request.specs.Calls.{IsLogged, allowed_by, log_of}
+use Rattle.relay_request.specs.Legs.{behind}
+use Rattle.relay_request.specs.Passed.{called_to, start_of}
+use Rattle.relay_request.specs.Request.{Processes}
+use Rattle.relay_request.specs.Turn.{world_of}
 use Rattle.relay_proxy.specs.declared.proxy.HttpProxy.{HttpProxy}
 use Rattle.relay_proxy.specs.declared.proxy.Outside.{Outside}
-use Rattle.relay_proxy.proofs.EndSteps.{done_gives, gives_by}
-use Rattle.relay_proxy.proofs.LastCalls.{calls_logged}
-use Rattle.relay_proxy.proofs.LegLemmas.{behind_first, behind_most}
-use Rattle.relay_proxy.proofs.PurgeSteps.{lost_done, purged_end, purged_first, purged_on}
-use Rattle.relay_proxy.proofs.UnderWay.{begun, goes_on, all_taken, steps_under, stopped, one_more, no_end, stops_at}
+use Rattle.relay_turns.proofs.EndSteps.{done_gives, gives_by}
+use Rattle.relay_turns.proofs.LastCalls.{calls_logged}
+use Rattle.relay_turns.proofs.LegLemmas.{behind_first, behind_most}
+use Rattle.relay_turns.proofs.PurgeSteps.{lost_done, purged_end, purged_first, purged_on}
+use Rattle.relay_turns.proofs.UnderWay.{begun, goes_on, all_taken, steps_under, stopped, one_more, no_end, stops_at}
 use Rattle.relay_proxy.proofs.proxy.HttpProxy.process_new_http.Goals as goal
 
 -- before the first step the request has begun

@@ -2,13 +2,13 @@
 use Rattle.std.proofs.Common.{◌≡◌, ◌+◌, ◌≤◌, [], length, None, false}
 use Rattle.relay_links.specs.Told.{more}
 use Rattle.relay_purging.specs.Told.{purges_in}
-use Rattle.relay_proxy.specs.Calls.{CallsSoFar, allowed_by, log_of}
-use Rattle.relay_proxy.specs.Passed.{start_of}
-use Rattle.relay_proxy.specs.Request.{is_done}
-use Rattle.relay_proxy.specs.Stock.{items_held, all_items}
-use Rattle.relay_proxy.specs.Turn.{world_of, links_held}
-use Rattle.relay_proxy.specs.Work.{total_work}
-use Rattle.relay_proxy.proofs.UnderWay.{IsUnderWay}
+use Rattle.relay_request.specs.Calls.{CallsSoFar, allowed_by, log_of}
+use Rattle.relay_request.specs.Passed.{start_of}
+use Rattle.relay_request.specs.Request.{is_done}
+use Rattle.relay_request.specs.Stock.{items_held, all_items}
+use Rattle.relay_request.specs.Turn.{world_of, links_held}
+use Rattle.relay_request.specs.Work.{total_work}
+use Rattle.relay_turns.proofs.UnderWay.{IsUnderWay}
 use Rattle.relay_proxy.proofs.proxy.HttpProxy.process_new_http.Given as goal
 
 -- the request is under way, and its links are those of the connector

@@ -1,14 +1,14 @@
 -- A step is a turn, or a call of a hook of the end.
 use Rattle.std.proofs.Common.{refl, sym, ◌∙◌, ap, subst}
-use Rattle.relay_proxy.specs.Calls.{CallsSoFar, allowed_by, log_of}
-use Rattle.relay_proxy.specs.Passed.{called_to}
-use Rattle.relay_proxy.specs.Request.{StepsOn}
-use Rattle.relay_proxy.specs.Turn.{held_state, world_of}
-use Rattle.relay_proxy.specs.declared.machine.Phase.{Phase}
-use Rattle.relay_proxy.specs.declared.work.Work.{Work}
-use Rattle.relay_proxy.specs.declared.work.TheConstants.Work.{NONE}
-use Rattle.relay_proxy.proofs.EndSteps.{calls_last, last_elsewhere, last_on, rests_on, rests_uses}
-use Rattle.relay_proxy.proofs.PurgeSteps.{asks_nothing, asks_still}
+use Rattle.relay_request.specs.Calls.{CallsSoFar, allowed_by, log_of}
+use Rattle.relay_request.specs.Passed.{called_to}
+use Rattle.relay_request.specs.Request.{StepsOn}
+use Rattle.relay_request.specs.Turn.{held_state, world_of}
+use Rattle.relay_request.specs.declared.machine.Phase.{Phase}
+use Rattle.relay_request.specs.declared.work.Work.{Work}
+use Rattle.relay_request.specs.declared.work.TheConstants.Work.{NONE}
+use Rattle.relay_turns.proofs.EndSteps.{calls_last, last_elsewhere, last_on, rests_on, rests_uses}
+use Rattle.relay_turns.proofs.PurgeSteps.{asks_nothing, asks_still}
 use Rattle.relay_proxy.proofs.proxy.HttpProxy.step.Goals as goal
 
 -- the calls so far go on with that of such a hook

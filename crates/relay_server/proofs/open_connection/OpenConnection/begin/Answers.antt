@@ -1,6 +1,6 @@
 -- The first request begins, for which no hook was called.
 use Rattle.std.proofs.Common.{refl, sym}
-use Rattle.relay_proxy.specs.Calls.{allowed_by}
+use Rattle.relay_request.specs.Calls.{allowed_by}
 use Rattle.relay_server.specs.Serving.{books}
 use Rattle.relay_server.proofs.ServingLemmas.{begins}
 use Rattle.relay_server.proofs.open_connection.OpenConnection.begin.Goals as goal

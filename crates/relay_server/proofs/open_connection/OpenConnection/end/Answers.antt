@@ -1,6 +1,6 @@
 -- The request is ended, and the next one begins where the connection is reused.
 use Rattle.std.proofs.Common.{ap, refl, sym}
-use Rattle.relay_proxy.specs.Calls.{allowed_by}
+use Rattle.relay_request.specs.Calls.{allowed_by}
 use Rattle.relay_proxy.specs.declared.proxy.HttpProxy.{HttpProxy}
 use Rattle.relay_server.specs.Serving.{books}
 use Rattle.relay_server.proofs.ServingLemmas.{ends_one, begins}

@@ -1,6 +1,6 @@
 -- Of a connection that is idle nothing was asked, and nothing was done.
-use Rattle.relay_proxy.specs.Calls.{allowed_by}
-use Rattle.relay_proxy.specs.Turn.{world_of}
+use Rattle.relay_request.specs.Calls.{allowed_by}
+use Rattle.relay_request.specs.Turn.{world_of}
 use Rattle.relay_server.proofs.IdleLemmas.{not_begun, none_called}
 use Rattle.relay_server.proofs.open_connection.OpenConnection.is_idle.Goals as goal
 

@@ -1,6 +1,6 @@
 -- The proxy's step is a turn of the first request.
 use Rattle.std.proofs.Common.{◌∙◌, ap}
-use Rattle.relay_proxy.specs.Calls.{allowed_by}
+use Rattle.relay_request.specs.Calls.{allowed_by}
 use Rattle.relay_proxy.specs.declared.proxy.HttpProxy.{HttpProxy}
 use Rattle.relay_server.specs.Serving.{books}
 use Rattle.relay_server.proofs.ServingLemmas.{goes_on, ends_now}

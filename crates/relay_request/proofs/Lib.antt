@@ -1,0 +1,5 @@
+pub mod ClosingSteps
+pub mod CallLemmas
+pub mod NamedLemmas
+pub mod BesideLemmas
+pub mod TreatLemmas

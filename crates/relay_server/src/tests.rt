@@ -1,3 +1,0 @@
-mod memory;
-mod serving_schedule;
-mod support;
