@@ -13,6 +13,7 @@ use Rattle.relay_links.specs.declared.script_connector.ScriptConnector.{ScriptCo
 use Rattle.relay_links.specs.declared.script_link.ScriptLink.{ScriptLink}
 use Rattle.relay_links.specs.declared.list_schedule.ListSchedule.{ListSchedule}
 use Rattle.relay_links.specs.ListSchedule.{branches_left}
+use Rattle.relay_links.specs.MemoryPurger.{one_answer}
 use Rattle.relay_modules.specs.Module.{ModuleCall}
 use Rattle.relay_hooks.specs.Standing.{Standing}
 use Rattle.relay_script.specs.declared.rule.Rule.{Rule}
@@ -293,6 +294,7 @@ pub record Begins (script : ScriptSpec) (run : Run) : Type 0 where
   pub names : run.names.items ≡ names_of script.peers
   pub retries : run.proxy.conf.max_retries ≡ script.retries
   pub named : branches_left run.outside.schedule ≡ script.schedule
+  pub answers : one_answer run.proxy.purger ≡ script.purge
   pub app : run.proxy.inner ≡ application_of script.rules
 
 -- a request was run; where its client goes back, a next one may begin

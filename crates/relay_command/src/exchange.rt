@@ -18,7 +18,7 @@ use relay_links::{
 use relay_proxy::{AttemptList, AttemptRecord, HttpProxy, Outcome, Outside, Processed, ServerConf};
 use relay_script::CheckedRules;
 use relay_scripted::ScriptProxy;
-use relay_tasks::{Peer, Purged};
+use relay_tasks::Peer;
 use std::alloc::{AllocError, Global};
 use std::collections::VecDeque;
 
@@ -69,12 +69,13 @@ impl Run {
             retries,
             turns: _,
             schedule,
+            purge,
             rules,
         } = script;
         let names = peer_names(alloc, &peers)?;
         let connector = connector_of(alloc, peers)?;
         let link = ScriptLink::new(alloc, client, client_write);
-        let purger = MemoryPurger::new(alloc, Purged::NotFound);
+        let purger = MemoryPurger::new(alloc, purge);
         let conf = ServerConf {
             max_retries: retries.most(),
         };

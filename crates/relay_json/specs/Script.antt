@@ -12,6 +12,8 @@ use Rattle.relay_tasks.specs.declared.error.RetryType.TheVariants.{Decided}
 use Rattle.relay_tasks.specs.declared.fault.Fault.{Fault}
 use Rattle.relay_tasks.specs.declared.fault.FaultKind.{FaultKind}
 use Rattle.relay_tasks.specs.declared.fault.FaultKind.TheVariants as kind
+use Rattle.relay_tasks.specs.declared.peer.Purged.{Purged}
+use Rattle.relay_tasks.specs.declared.peer.Purged.TheVariants as purged
 use Rattle.relay_json.specs.declared.script.PeerEntry.{PeerEntry}
 use Rattle.relay_links.specs.declared.branch.Branch.{Branch}
 use Rattle.relay_links.specs.declared.branch.Branch.TheVariants as branch
@@ -34,7 +36,8 @@ pub record PeerSpec : Type 0 where
 
 -- a script without where it lies in memory: what the client's link gives and takes, the peers in
 -- the order in which they are asked, how many requests are run at most, how many attempts and how
--- many turns each may take, the schedule over all of them, and the rules on their hooks
+-- many turns each may take, the schedule over all of them, what the purger answers, and the rules on
+-- their hooks
 pub record ScriptSpec : Type 0 where
   pub client : List ReadItem
   pub client_write : List WriteItem
@@ -43,6 +46,7 @@ pub record ScriptSpec : Type 0 where
   pub retries : ℕ
   pub turns : ℕ
   pub schedule : List Branch
+  pub purge : Purged
   pub rules : List Rule
 
 abbrev pub peer_spec : PeerEntry → PeerSpec
@@ -61,6 +65,7 @@ script_spec s = record {
   retries = s.retries.most;
   turns = s.turns;
   schedule = s.schedule.items;
+  purge = s.purge;
   rules = s.rules;
 }
 
@@ -282,8 +287,37 @@ branches_of value = list_of branch_of value
 abbrev pub schedule_of : Data → Option (List Branch)
 schedule_of value = where_there (get (codes "schedule") value) branches_of (Some [])
 
+-- `{"found": b}`: the purger found something to purge, or nothing
+abbrev pub found_answer : Data → Option Purged
+found_answer (boolean found) = Some (if found then purged.Found else purged.NotFound)
+found_answer _ = None
+
+-- that answer, of a value that says yes
+abbrev pub answer_so : Purged → Data → Option Purged
+answer_so answer (boolean true) = Some answer
+answer_so answer _ = None
+
+-- the fault of a purger that fails: no kind of fault is a purger's own
+abbrev pub purge_fault : Fault
+purge_fault = record { kind = kind.Write; retry = Decided false }
+
+-- what a purger answers: an object of exactly one key, `found`, `none` (nothing is kept at all) or
+-- `fault`
+abbrev pub answer_of : Data → Option Purged
+answer_of value =
+    if key_count value == 1
+    then where_there (get (codes "found") value) found_answer
+    (where_there (get (codes "none") value) (answer_so purged.NoCache)
+    (where_there (get (codes "fault") value) (answer_so (purged.Failed purge_fault)) None))
+    else None
+
+-- what the purger of a script answers: what is at `purge`, and that it found nothing where there is
+-- no such key
+abbrev pub purge_of : Data → Option Purged
+purge_of value = where_there (get (codes "purge") value) answer_of (Some purged.NotFound)
+
 -- a script with those items of the client: its `client_write`, empty where it is not there, its
--- `peers`, its requests, its attempts, its turns, its schedule and its rules
+-- `peers`, its requests, its attempts, its turns, its schedule, its purger's answer and its rules
 abbrev pub client_script : Data → List ReadItem → Option ScriptSpec
 client_script value items =
     writes_at (codes "client_write") value >>= (λ writes.
@@ -292,6 +326,7 @@ client_script value items =
     retries_of value >>= (λ retries.
     turns_of value >>= (λ turns.
     schedule_of value >>= (λ schedule.
+    purge_of value >>= (λ purge.
     option_map (λ rules. record {
       client = items;
       client_write = writes;
@@ -300,18 +335,24 @@ client_script value items =
       retries = retries;
       turns = turns;
       schedule = schedule;
+      purge = purge;
       rules = rules;
-    }) (rules_of value)))))))
+    }) (rules_of value))))))))
+
+-- how many keys of a script an object has that are of its links, and of how much is run
+abbrev pub link_keys : Data → ℕ
+link_keys value =
+    has (codes "client") value + has (codes "client_write") value + has (codes "peers") value
+    + has (codes "requests") value + has (codes "retries") value + has (codes "turns") value
 
 -- how many keys of a script an object has
 abbrev pub script_keys : Data → ℕ
 script_keys value =
-    has (codes "client") value + has (codes "client_write") value + has (codes "peers") value
-    + has (codes "requests") value + has (codes "retries") value + has (codes "turns") value
-    + has (codes "schedule") value + has (codes "hooks") value
+    link_keys value + has (codes "schedule") value + has (codes "purge") value
+    + has (codes "hooks") value
 
 -- a script: an object with `client` and `peers`, and each of `client_write`, `requests`, `retries`,
--- `turns`, `schedule` and `hooks` or not
+-- `turns`, `schedule`, `purge` and `hooks` or not
 abbrev pub script_of : Data → Option ScriptSpec
 script_of value =
     if key_count value == script_keys value

@@ -4,7 +4,7 @@ ghost use Rattle.std.specs.Prelude.{◌≡◌, ◌≤◌, IfOk, is_some, codes, 
 ghost use Rattle.hex.specs.Hex.{decode_of};
 ghost use Rattle.serde_json.specs.Find.{get};
 ghost use Rattle.serde_json.specs.View.{view, items_view};
-ghost use Rattle.relay_json.specs.Script.{script_spec, reads_script, reads_value, script_of, peer_spec, peer_specs, peer_keys, peer_of, peers_in, peers_of, named_peer, connect_of, limit_of, requests_of, retries_of, items_of, write_items_of, writes_at, item_of, write_item_of, item_at_key, write_item_at_key, client_script, script_keys, turns_of, branch_of, branches_of, schedule_of, take_item, text_item, spelt, hex_item, wait_item, after_item, end_item, read_kind, write_kind, mark_of, fault_of};
+ghost use Rattle.relay_json.specs.Script.{script_spec, reads_script, reads_value, script_of, link_keys, peer_spec, peer_specs, peer_keys, peer_of, peers_in, peers_of, named_peer, connect_of, limit_of, requests_of, retries_of, items_of, write_items_of, writes_at, item_of, write_item_of, item_at_key, write_item_at_key, client_script, script_keys, turns_of, purge_of, answer_of, found_answer, answer_so, branch_of, branches_of, schedule_of, take_item, text_item, spelt, hex_item, wait_item, after_item, end_item, read_kind, write_kind, mark_of, fault_of};
 ghost use Rattle.relay_json.specs.Values.{Reads, each_of};
 
 use crate::retries::Retries;
@@ -14,7 +14,7 @@ use bytes::Bytes;
 use hex::FromHexError;
 use relay_links::{Branch, ReadItem, WriteItem};
 use relay_script::CheckedRules;
-use relay_tasks::{Fault, FaultKind, RetryType};
+use relay_tasks::{Fault, FaultKind, Purged, RetryType};
 use serde_json::Value;
 use std::alloc::{AllocError, AllocFailed, Global};
 
@@ -23,6 +23,12 @@ const TURNS: u64 = 1_000_000;
 
 /// How many attempts a request may make where its script does not say.
 const RETRIES: usize = 2;
+
+/// The fault of a purger that fails: no kind of fault is a purger's own.
+const PURGE_FAULT: Fault = Fault {
+    kind: FaultKind::Write,
+    retry: RetryType::Decided(false),
+};
 
 /// How many peers a script has at most, how many requests, and how many attempts each.
 const LIMIT: usize = 1_024;
@@ -39,7 +45,7 @@ pub struct PeerEntry {
 
 /// A script: what the client's link gives and takes, the peers in the order in which they are
 /// asked, how many requests are run at most, how many attempts and how many turns each may take,
-/// the schedule over all of them, and the rules on their hooks.
+/// the schedule over all of them, what the purger answers, and the rules on their hooks.
 #[derive(Drop)]
 pub struct Script {
     pub client: Vec<ReadItem>,
@@ -49,6 +55,7 @@ pub struct Script {
     pub retries: Retries,
     pub turns: u64,
     pub schedule: Vec<Branch>,
+    pub purge: Purged,
     pub rules: CheckedRules,
 }
 
@@ -122,14 +129,20 @@ fn script_in(alloc: Global, value: &Value) -> Result<Script, ScriptError>
 fn script_keys(value: &Value) -> usize
     ensures { result ≡ script_keys (view value.now) }
 {
+    link_keys(value) + has(value, "schedule") + has(value, "purge") + has(value, "hooks")
+}
+
+/// How many of those that are of its links, and of how much is run.
+fn link_keys(value: &Value) -> usize
+    ensures keys { result ≡ link_keys (view value.now) }
+    ensures few { result ≤ 6 }
+{
     has(value, "client")
         + has(value, "client_write")
         + has(value, "peers")
         + has(value, "requests")
         + has(value, "retries")
         + has(value, "turns")
-        + has(value, "schedule")
-        + has(value, "hooks")
 }
 
 /// The script that a value is, with those items of the client.
@@ -142,6 +155,7 @@ fn client_script(alloc: Global, value: &Value, client: Vec<ReadItem>) -> Result<
     let retries = retries(value)?;
     let turns = turns(value)?;
     let schedule = schedule(alloc, value)?;
+    let purge = purge(value)?;
     let rules = rules(alloc, value)?;
     Ok(Script {
         client,
@@ -151,6 +165,7 @@ fn client_script(alloc: Global, value: &Value, client: Vec<ReadItem>) -> Result<
         retries,
         turns,
         schedule,
+        purge,
         rules,
     })
 }
@@ -203,6 +218,56 @@ fn schedule(alloc: Global, value: &Value) -> Result<Vec<Branch>, ScriptError>
     match value.get("schedule") {
         Some(list) => branches(alloc, list),
         None => Ok(Vec::new(alloc)),
+    }
+}
+
+/// What the purger of a script answers: that it found nothing, where the script does not say.
+fn purge(value: &Value) -> Result<Purged, ScriptError>
+    ensures { Reads (λ answer. answer) result (purge_of (view value.now)) }
+{
+    match value.get("purge") {
+        Some(answer) => purge_answer(answer),
+        None => Ok(Purged::NotFound),
+    }
+}
+
+/// What a purger answers, by the one key of an object.
+fn purge_answer(value: &Value) -> Result<Purged, ScriptError>
+    ensures { Reads (λ answer. answer) result (answer_of (view value.now)) }
+{
+    if key_count(value) != 1 {
+        return Err(ScriptError::Refused);
+    }
+    if let Some(found) = value.get("found") {
+        return purge_found(found);
+    }
+    if let Some(nothing) = value.get("none") {
+        return where_true(nothing, Purged::NoCache);
+    }
+    if let Some(failed) = value.get("fault") {
+        return where_true(failed, Purged::Failed(PURGE_FAULT));
+    }
+    Err(ScriptError::Refused)
+}
+
+/// Whether the purger found something.
+fn purge_found(value: &Value) -> Result<Purged, ScriptError>
+    ensures { Reads (λ answer. answer) result (found_answer (view value.now)) }
+{
+    match value.as_bool() {
+        Some(true) => Ok(Purged::Found),
+        Some(false) => Ok(Purged::NotFound),
+        None => Err(ScriptError::Refused),
+    }
+}
+
+/// That answer, of a value that says yes.
+fn where_true(value: &Value, answer: Purged) -> Result<Purged, ScriptError>
+    ensures { Reads (λ answer. answer) result (answer_so answer (view value.now)) }
+{
+    match value.as_bool() {
+        Some(true) => Ok(answer),
+        Some(false) | None => Err(ScriptError::Refused),
     }
 }
 
