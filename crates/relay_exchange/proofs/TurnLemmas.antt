@@ -134,12 +134,17 @@ module _
 
     -- an end was put exactly where the request has ended
     ended : list_any is_end p.put ≡ true → down.request_ended ≡ true
-    ended = λ is. b.request_ended ∙ (sym b.end_put ∙ is)
+    ended = λ is. sym b.end_put ∙ is
+
+    -- so a request that has ended put a task
+    none_ended : down.request_ended ≡ true → p.put ≡ [] → ⊥
+    none_ended is none =
+        let unended : false ≡ true = ap (list_any is_end) (sym none) ∙ (b.end_put ∙ is) in
+        absurd (cc)
 
     module _ (tasks : List HttpTask) (sent : Bool)
         (is_put : p.put ≡ tasks)
         (whole : sent ≡ true → (tasks ≡ []) × (done ≡ true))
-        (taken_end : done ≡ true → tasks ≡ [] → sent ≡ true)
       where
         -- nothing was asked for, lost or taken
         ordinary : (d : Duplex)
@@ -147,11 +152,11 @@ module _
         ordinary d = record {
           ends_last = ends_last;
           ended = ended;
-          request_done = λ is. inl (b.request_ended ∙ begun_done done is);
+          request_done = λ is. inl (b.ended (begun_done done is));
           unlost = λ none. b.none_lost;
-          whole = λ none is. (let w = whole is in (w.0, b.request_ended ∙ w.1));
-          put_end = λ is. inl (b.end_put ∙ (sym b.request_ended ∙ is));
-          taken_end = λ is none. taken_end (sym b.request_ended ∙ is) none;
+          whole = λ none is. (let w = whole is in (w.0, b.ended w.1));
+          put_end = λ is. inl (b.end_put ∙ is);
+          taken_end = λ is none. absurd (none_ended is (is_put ∙ none));
           sent = λ none is. absurd (cc);
           through = λ is. absurd (cc);
           answered = λ is. absurd (cc);
@@ -214,10 +219,10 @@ module _
         (core (with_replay (begins up.kind done d) first) down up) p q
     begun_by None down up p q b d sound =
         under_way down_past up_past up_blames done None down up p q b [] done b.first_put
-        (λ is. (refl, is)) (λ is none. is) d sound
+        (λ is. (refl, is)) d sound
     begun_by (Some one) down up p q b d sound =
         under_way down_past up_past up_blames done (Some one) down up p q b (one ∷ []) false
-        b.first_put (λ is. absurd (cc)) (λ is none. absurd (cc)) d sound
+        b.first_put (λ is. absurd (cc)) d sound
 
     -- an exchange begins with both sides as they are
     pub begun : (first : Option HttpTask) (down : DownState) (up : UpState) (p : DownPast)

@@ -53,8 +53,8 @@ put_first None = None
 put_first (Some piece) = task_put_of false piece
 
 -- both sides as an exchange begins: of the request's body that first task was put, if there is one,
--- and it is an end exactly where the body has ended; nothing else was queued but the head, and no
--- call answered an error
+-- and it is an end exactly where the request has ended for the peer, as it has where the client's
+-- body has ended; nothing else was queued but the head, and no call answered an error
 pub record Begins
     (down_past : DownPast → Type 0) (up_past : UpPast → Type 0) (done : Bool)
     (first : Option HttpTask) (down : DownState) (up : UpState) (p : DownPast) (q : UpPast)
@@ -62,14 +62,14 @@ pub record Begins
   pub down_holds : down_past p
   pub up_holds : up_past q
   pub first_put : p.put ≡ option_to_list first
-  pub end_put : list_any is_end p.put ≡ done
+  pub end_put : list_any is_end p.put ≡ down.request_ended
   pub none_batched : p.batched ≡ []
   pub none_closing : p.closing ≡ []
   pub none_read : q.read ≡ []
   pub none_taken : q.taken ≡ []
   pub none_lost : q.lost ≡ false
   pub body_done : down.body_done ≡ done
-  pub request_ended : down.request_ended ≡ done
+  pub ended : done ≡ true → down.request_ended ≡ true
   pub unread : up.read_failed ≡ false
   pub unsent : up.send_failed ≡ None
 

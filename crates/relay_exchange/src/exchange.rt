@@ -44,8 +44,9 @@ pub struct Turn {
 impl<D, U: Up> Exchange<D, U> {
     /// An exchange between these sides. The upstream's side holds the head that is sent;
     /// `body_done` says that the client's body has ended. `replay` is what was read of the request
-    /// before, as one piece, which is put first: an empty one that is not the end is not put. It
-    /// takes no memory.
+    /// before, as one piece and as filters left it, which is put first: an empty one that is not
+    /// the end is not put. It is the end exactly where the request has ended for the peer, which
+    /// it may while the client's body goes on. It takes no memory.
     pub fn begin(
         alloc: Global,
         down: D,

@@ -78,14 +78,14 @@ returns-clause-begins g c =
           });
       first_put = sym c.in-Ok.ensures.ok;
       end_put = end_is (retry_buffer (replay_of session.reading)) (is_body_done session.reading)
-          ∙ sym value;
+          ∙ (sym value ∙ sym done);
       none_batched = refl;
       none_closing = refl;
       none_read = refl;
       none_taken = refl;
       none_lost = refl;
       body_done = done;
-      request_ended = done;
+      ended = λ is. done ∙ is;
       unread =
           ap
           (λ (u : Filtered (PeerSide g.row.L.Denot)).
