@@ -12,7 +12,7 @@ ghost use Rattle.relay_sides.specs.Filtered.{is_head_request};
 ghost use Rattle.relay_calls.specs.Log.{IsAllowed};
 ghost use Rattle.relay_filters.specs.Response.{SomeAllow};
 ghost use Rattle.relay_filters.specs.Delay.{delays_of};
-ghost use Rattle.relay_filters.specs.Request.{is_last};
+ghost use Rattle.relay_filters.specs.Request.{Filters, is_last};
 ghost use Rattle.relay_filters.specs.Hooked.{BlamesOver, HookedPast, InnerPast, PastBy, RefusesOver, Stays, failure_in_front, is_lost, put_by, refused_at_once, seen_by, state_of_side, state_over, stood_head};
 
 use crate::lent::{pass_piece, pass_tasks};
@@ -167,6 +167,16 @@ impl<'a, SV: ProxyHttp> Hooked<'a, SV> {
             ≡ is_body_done inner.session.reading) }
         ensures goes_on { IfOk result.1 (λ made. result.0.side.stopped ≡ None) }
         ensures failed { IfErr result.1 (λ why. result.0.side.stopped ≡ Some why) }
+        // That call, with that piece, is the only one, and stands behind all that stood in the log;
+        // where memory was wanted it has no entry. Of the inner side hooks change the session alone.
+        ensures filters { Filters (SV.allows app.now) false first result.1
+            (seen_by session.seen inner.session) (SV.mark_of app.now ctx)
+            (seen_by result.0.side.session.seen result.0.side.inner.session)
+            (SV.mark_of app.now result.0.side.ctx) }
+        ensures rest { result.0.side.inner
+            ≡ record inner { session = result.0.side.inner.session } }
+        ensures first { result.0.side.first ≡ length session.seen.log }
+        ensures at_first { result.0.side.at_first ≡ false }
         ensures told { IfOk result.1 (λ made. result.0.side.told ≡ inner.told) }
         ensures app { result.0.app ≡ app.entry }
         ensures counted { result.0.side.counted ≡ length session.seen.log }

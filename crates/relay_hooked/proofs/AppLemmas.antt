@@ -5,10 +5,8 @@
 --   from_settled   an answer that is no failure is the duplex's
 --   asks_settled   how a turn asked both links, by its answer
 --   by_head        whether a request is a HEAD, by the head that its session has
---   refused_as     an exchange is not begun where its head is refused
 use Rattle.std.proofs.Common.{◌≡◌, ℕ, Bool, true, false, ◌⊎◌, List, Option, Some, None, Result, Err, ◌↔◌, inl, inr, refl, sym, ap, subst, ◌∙◌}
 use Rattle.std.specs.Prelude.{IsSome}
-use Rattle.std.specs.Result.{IsErrOf}
 use Rattle.relay_tasks.specs.declared.error.Error.{Error}
 use Rattle.relay_tasks.specs.declared.error.Fail.{Fail}
 use Rattle.relay_tasks.specs.declared.error.Fail.TheVariants as fail
@@ -16,7 +14,7 @@ use Rattle.relay_tasks.specs.declared.log.LogEntry.{LogEntry}
 use Rattle.relay_tasks.specs.declared.task.HttpTask.{HttpTask}
 use Rattle.relay_tasks.specs.declared.took.Pause.TheVariants as pause
 use Rattle.relay_tasks.specs.Head.{RequestHead}
-use Rattle.relay_links.specs.Link.{LinkState, LinkStart}
+use Rattle.relay_links.specs.Link.{LinkState}
 use Rattle.relay_core.specs.Causes.{says_failed}
 use Rattle.relay_core.specs.Past.{Origin, DownPast, UpPast}
 use Rattle.relay_core.specs.Table.{State}
@@ -28,20 +26,16 @@ use Rattle.relay_hooks.specs.Standing.{Standing}
 use Rattle.relay_sides.specs.Filtered.{is_head_request}
 use Rattle.relay_filters.specs.declared.unhooked.Unhooked.{Unhooked}
 use Rattle.relay_hooked.specs.Exchange.{SideHolds}
-use Rattle.relay_hooked.specs.Head.{IsRefusedFor}
-use Rattle.relay_hooked.specs.declared.exchange.HookedExchange.{HookedExchange}
-use Rattle.relay_hooked.specs.declared.exchange.Unbegun.{Unbegun}
 
-module _ {A M C L : Type 0} (state : L → LinkState) (start_at : L → LinkStart)
-    (law : A → Standing → LogEntry → Type 0) (mark : A → C → ℕ) (a b : A) (same : a ≡ b)
-    (s : Origin) (link : LinkState) (ahead : List ℕ) (u : Unhooked M C)
+module _ {A M C : Type 0} (law : A → Standing → LogEntry → Type 0) (mark : A → C → ℕ) (a b : A)
+    (same : a ≡ b) (s : Origin) (link : LinkState) (ahead : List ℕ) (u : Unhooked M C)
   where
     -- what a side holds by the law of one application it holds by that of the same
     pub holds_by : (p : DownPast)
-        → SideHolds {L = L} state start_at (law a) (mark a) link ahead s u p
-        → SideHolds {L = L} state start_at (law b) (mark b) link ahead s u p
+        → SideHolds (law a) (mark a) link ahead s u p
+        → SideHolds (law b) (mark b) link ahead s u p
     holds_by p h =
-        subst (λ (i : A). SideHolds {L = L} state start_at (law i) (mark i) link ahead s u p) same h
+        subst (λ (i : A). SideHolds (law i) (mark i) link ahead s u p) same h
 
     -- and so does what a turn made of it
     pub turns_by : (blames : DownPast → Error → Type 0)
@@ -49,13 +43,13 @@ module _ {A M C L : Type 0} (state : L → LinkState) (start_at : L → LinkStar
         (cannot_end : DownPast → Error → Type 0) (up_past : UpPast → Type 0)
         (up_blames : UpPast → Error → Type 0) (p : DownPast) (q : UpPast) (old new : State)
         (result : Step)
-        → over.Turns (SideHolds {L = L} state start_at (law a) (mark a) link ahead s u) blames
+        → over.Turns (SideHolds (law a) (mark a) link ahead s u) blames
         refuses cannot_end up_past up_blames p q old new result
-        → over.Turns (SideHolds {L = L} state start_at (law b) (mark b) link ahead s u) blames
+        → over.Turns (SideHolds (law b) (mark b) link ahead s u) blames
         refuses cannot_end up_past up_blames p q old new result
     turns_by blames refuses cannot_end up_past up_blames p q old new result went =
         subst (λ (i : A).
-        over.Turns (SideHolds {L = L} state start_at (law i) (mark i) link ahead s u) blames refuses
+        over.Turns (SideHolds (law i) (mark i) link ahead s u) blames refuses
         cannot_end up_past up_blames p q old new result) same went
 
 -- an answer that is no failure is the duplex's
@@ -95,22 +89,3 @@ pub by_head : (head : Option RequestHead) (asks : Bool) (method : List ℕ) → 
     → asks ≡ is_head_request method
 by_head None asks method some says heads = absurd (cc)
 by_head (Some own) asks method some says heads = says own refl ∙ heads own refl
-
--- an exchange is not begun where its head is refused
-pub refused_as : {T M C L refuses : Type 0} (unbegun : Unbegun M C L) (error : Fail)
-    → IsErrOf {T = T} (Err unbegun.why) error ↔ refuses
-    → IsRefusedFor {M = M} {C = C} {L = L} (Err unbegun) error ↔ refuses
-refused_as {T} {M} {C} {L} unbegun error same =
-    let err : Fail → Result T Fail = λ w. Err w in (
-      λ r. same.0 (ap err (of r.0 r.1 ∙ r.2)),
-      λ refuses. (unbegun, refl, as_err (same.1 refuses)),
-    )
-  where
-    of : (other : Unbegun M C L)
-        → ◌≡◌ {A = Result (HookedExchange M C L) (Unbegun M C L)} (Err unbegun) (Err other)
-        → unbegun.why ≡ other.why
-    of other same =
-        let is : unbegun ≡ other = cc in ap (λ (u : Unbegun M C L). u.why) is
-
-    as_err : ◌≡◌ {A = Result T Fail} (Err unbegun.why) (Err error) → unbegun.why ≡ error
-    as_err same = cc

@@ -10,4 +10,5 @@ pub mod StationLemmas
 pub mod SideLemmas
 pub mod TurnLemmas
 pub mod AppLemmas
+pub mod BeginLemmas
 pub mod CauseLemmas

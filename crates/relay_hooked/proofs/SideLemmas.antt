@@ -107,7 +107,7 @@ module _ {M C L : Type 0} (state : L → LinkState) (start_at : L → LinkStart)
     half_at true p h =
         hooked_half allows link ahead s (before_it h.passed.holds.0) p (held_before p h)
 
-    abbrev pub half_of : (p : DownPast) → SideHolds state start_at allows mark_of link ahead s u p
+    abbrev pub half_of : (p : DownPast) → SideHolds allows mark_of link ahead s u p
         → HookedHalf (filtering (behind mark_of u)) s link u.ended u.inner.done p
     half_of p h = half_at (is_lost u.stopped) p h
 
@@ -127,8 +127,8 @@ module _ {M C L : Type 0} (state : L → LinkState) (start_at : L → LinkStart)
     told_one true p h one = h.passed.holds.1.tasks.one one
 
     -- the calls of the side walk, behind those that stood in the log before
-    pub logged_at : (p : DownPast) → SideHolds state start_at allows mark_of link ahead s u p
-        → AreLogged state start_at allows mark_of u
+    pub logged_at : (p : DownPast) → SideHolds allows mark_of link ahead s u p
+        → AreLogged allows mark_of u
     logged_at p h = record {
       before = h.passed.before;
       own = h.passed.own;
@@ -138,7 +138,7 @@ module _ {M C L : Type 0} (state : L → LinkState) (start_at : L → LinkStart)
     }
 
     module _ (up : PeerSide L) (duplex : Duplex) (p : DownPast) (q : UpPast)
-        (so_far : SoFar (SideHolds state start_at allows mark_of link ahead s u)
+        (so_far : SoFar (SideHolds allows mark_of link ahead s u)
         (PeerHolds state start_at s up) (PeerSideBlames state start_at s up) (core_of duplex u up) p
         q)
       where
@@ -147,12 +147,12 @@ module _ {M C L : Type 0} (state : L → LinkState) (start_at : L → LinkStart)
             IsAttempt (HookedHalf (filtering (behind mark_of u)) s link u.ended u.inner.done)
             (PeerHalf s (start_at up.client.link) (state up.client.link)) (side_state u)
         attempt_at =
-            with_halves (SideHolds state start_at allows mark_of link ahead s u)
+            with_halves (SideHolds allows mark_of link ahead s u)
             (HookedHalf (filtering (behind mark_of u)) s link u.ended u.inner.done)
             (PeerHolds state start_at s up)
             (PeerHalf s (start_at up.client.link) (state up.client.link)) (side_state u) half_of
             (λ r h. peer_half s (start_at up.client.link) (state up.client.link) up r h)
-            (attempt_of (SideHolds state start_at allows mark_of link ahead s u)
+            (attempt_of (SideHolds allows mark_of link ahead s u)
             (PeerHolds state start_at s up) (PeerSideBlames state start_at s up)
             (core_of duplex u up) p q so_far)
 

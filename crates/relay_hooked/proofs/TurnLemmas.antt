@@ -43,7 +43,7 @@ module _ {M C L : Type 0} (state : L → LinkState) (start_at : L → LinkStart)
     -- the exchange between both sides
     abbrev IsOver : DownPast → UpPast → Type 0
     IsOver p q =
-        over.IsUnderWay (SideHolds state start_at allows mark_of link ahead s x.exchange.down)
+        over.IsUnderWay (SideHolds allows mark_of link ahead s x.exchange.down)
         (PeerHolds state start_at s x.exchange.up) (PeerSideBlames state start_at s x.exchange.up)
         (core_of x.exchange.duplex x.exchange.down x.exchange.up) p q
 
@@ -77,7 +77,7 @@ module _ {M C L : Type 0} (state : L → LinkState) (start_at : L → LinkStart)
     module _
         (before : DownPast) (up_before : UpPast) (was : State) (answer result : Step)
         (bodies : answer ≡ step.Finished → x.exchange.stage ≡ stage.Bodies)
-        (went : over.Turns (SideHolds state start_at allows mark_of link ahead s x.exchange.down)
+        (went : over.Turns (SideHolds allows mark_of link ahead s x.exchange.down)
         (λ r why. BlamesOver (InnerPast x.exchange.down.stopped s link ahead x.exchange.down.inner)
         (λ i. ClientBlames s i link) x.exchange.down.stopped r why)
         (λ r left why. RefusesOver

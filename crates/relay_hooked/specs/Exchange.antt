@@ -24,9 +24,8 @@ use Rattle.relay_hooked.specs.Order.{EndsEarly, FailsWith, IsInOrder, IsInOrderW
 use Rattle.relay_hooked.specs.Sides.{PeerHolds, PeerSideBlames, filtering}
 use Rattle.relay_hooked.specs.declared.exchange.HookedExchange.{HookedExchange}
 
--- by the links, the law that an application keeps, and the mark of its contexts
-module _ {M C L : Type 0} (state : L → LinkState) (start_at : L → LinkStart)
-    (allows : Standing → LogEntry → Type 0) (mark_of : C → ℕ) where
+-- by the law that an application keeps, and the mark of its contexts
+module _ {M C : Type 0} (allows : Standing → LogEntry → Type 0) (mark_of : C → ℕ) where
   -- the past of the client's side behind filters holds: over the client's session, or over the one
   -- before where memory was wanted in a hook
   abbrev pub SideHolds : LinkState → List ℕ → Origin → Unhooked M C → DownPast → Type 0
@@ -45,6 +44,9 @@ module _ {M C L : Type 0} (state : L → LinkState) (start_at : L → LinkStart)
     pub logged : IsLogged allows own (seen_by u.session.seen u.inner.session) (mark_of u.ctx)
         u.stopped
 
+-- by the links too
+module _ {M C L : Type 0} (state : L → LinkState) (start_at : L → LinkStart)
+    (allows : Standing → LogEntry → Type 0) (mark_of : C → ℕ) where
   -- the exchange so far, over all that passed: what was sent and written is in order, and it is
   -- under way between both sides. No hook wanted memory, and the client's side told no error
   pub record IsUnderWay (s : Origin) (p : Passed) (link : LinkState) (ahead : List ℕ)
@@ -58,7 +60,7 @@ module _ {M C L : Type 0} (state : L → LinkState) (start_at : L → LinkStart)
     pub written : down.written ≡ p.written
     pub got : up.got ≡ p.got
     pub sent : up.sent ≡ p.sent
-    pub holds : over.IsUnderWay (SideHolds link ahead s x.exchange.down)
+    pub holds : over.IsUnderWay (SideHolds allows mark_of link ahead s x.exchange.down)
         (PeerHolds state start_at s x.exchange.up) (PeerSideBlames state start_at s x.exchange.up)
         (core_of x.exchange.duplex x.exchange.down x.exchange.up) down up
 
@@ -107,7 +109,7 @@ module _ {M C L : Type 0} (state : L → LinkState) (start_at : L → LinkStart)
   pub record Turns (s : Origin) (link : LinkState) (ahead : List ℕ) (x : HookedExchange M C L)
       (result : Step) : Type 0 where
     pub passed : Passed
-    pub logged : AreLogged x.exchange.down
+    pub logged : AreLogged allows mark_of x.exchange.down
     pub told : AreTold state start_at s passed link (state (link_of x)) (start_at (link_of x))
     pub comes_to : ComesTo s passed link ahead x result
 

@@ -1,7 +1,6 @@
 -- An exchange behind filters as a struct holds it: both sides, its link, and whether that may be
 -- kept.
-use Rattle.std.specs.Prelude.{◌≡◌, ℕ, Bool, ◌&&◌, Result, Err, is_some}
-use Rattle.relay_tasks.specs.declared.error.Fail.{Fail}
+use Rattle.std.specs.Prelude.{ℕ, Bool, ◌&&◌, is_some}
 use Rattle.relay_core.specs.Down.{DownState}
 use Rattle.relay_core.specs.Table.{State, core}
 use Rattle.relay_core.specs.declared.duplex.Duplex.{Duplex}
@@ -13,7 +12,6 @@ use Rattle.relay_peer.specs.Peer as peer
 use Rattle.relay_peer.specs.declared.peer_side.PeerSide.{PeerSide}
 use Rattle.relay_hooked.specs.Sides.{Behind}
 use Rattle.relay_hooked.specs.declared.exchange.HookedExchange.{HookedExchange}
-use Rattle.relay_hooked.specs.declared.exchange.Unbegun.{Unbegun}
 
 -- the link to the peer
 abbrev pub link_of : {M C L : Type 0} → HookedExchange M C L → L
@@ -24,12 +22,6 @@ link_of x = x.exchange.up.client.link
 abbrev pub may_keep : {M C L : Type 0} → HookedExchange M C L → Bool
 may_keep x =
     may_keep_at x.exchange.stage x.exchange.duplex && may_keep_client x.exchange.up.client
-
--- the exchange was not begun, for that reason
-abbrev pub IsRefusedFor : {M C L : Type 0} → Result (HookedExchange M C L) (Unbegun M C L) → Fail
-    → Type 0
-IsRefusedFor {M} {C} {L} result why =
-    (unbegun : Unbegun M C L) × (result ≡ Err unbegun) × (unbegun.why ≡ why)
 
 -- the client's side behind filters, as the laws speak of it, by what is held of it between turns
 abbrev pub behind : {M C : Type 0} → (C → ℕ) → Unhooked M C → Behind

@@ -6,4 +6,5 @@ pub mod Laws
 pub mod Neutral
 pub mod Stations
 pub mod Head
+pub mod Begins
 pub mod Exchange

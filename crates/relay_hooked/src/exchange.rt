@@ -1,8 +1,7 @@
 //! One exchange between a client and an HTTP/1 link to a peer behind the filters of an application,
 //! which is held between turns without it (RFC 9112, sections 6, 7 and 9.3).
 ghost use Rattle.std.specs.declared.alloc.Global.{Global};
-ghost use Rattle.std.specs.Prelude.{◌≡◌, ◌↔◌, ◌^◌, ◌-◌, Bool, ℕ, List, [], None, Some, false, drop, length, min, IfOk, IfErr, IsOkUnless, true, ◌⊎◌};
-ghost use Rattle.relay_tasks.specs.Error.{IsMemoryOr};
+ghost use Rattle.std.specs.Prelude.{◌≡◌, ◌↔◌, ◌^◌, ◌-◌, ◌+◌, Bool, ℕ, List, [], None, Some, false, drop, is_some, length, min, IfOk, IfErr, IsOkUnless, true, ◌⊎◌};
 ghost use Rattle.relay_tasks.specs.Head.{RequestHead};
 ghost use Rattle.relay_links.specs.Link.{IsHandedOut};
 ghost use Rattle.relay_h1.specs.Framing.{request_framing};
@@ -10,10 +9,11 @@ ghost use Rattle.relay_h1.specs.Verdict.{refused_from};
 ghost use Rattle.relay_core.specs.Asked.{WaitRose};
 ghost use Rattle.relay_core.specs.Causes.{says_failed};
 ghost use Rattle.relay_core.specs.Past.{Origin};
-ghost use Rattle.relay_core.specs.Piece.{put_of};
-ghost use Rattle.relay_session.specs.Reading.{head_of, is_body_done};
-ghost use Rattle.relay_sides.specs.Client.{BeginsBehind, put_again};
+ghost use Rattle.relay_core.specs.Piece.{put_of, task_put_of};
+ghost use Rattle.relay_session.specs.Reading.{head_of};
+ghost use Rattle.relay_sides.specs.Client.{BeginsBehind, begun_past, put_again};
 ghost use Rattle.relay_sides.specs.Filtered.{is_head_request};
+ghost use Rattle.relay_sides.specs.Lent.{SameButHead};
 ghost use Rattle.relay_calls.specs.Log.{IsAllowed};
 ghost use Rattle.relay_filters.specs.Delay.{delays_of};
 ghost use Rattle.relay_filters.specs.Hooked.{is_lost, stood_head};
@@ -21,8 +21,9 @@ ghost use Rattle.relay_filters.specs.Response.{SomeAllow};
 ghost use Rattle.relay_attempt.specs.Attempt.{IsAttempt};
 ghost use Rattle.relay_attempt.specs.Passed.{Passed};
 ghost use Rattle.relay_hooked.specs.Attempt.{HookedHalf, PeerHalf};
-ghost use Rattle.relay_hooked.specs.Exchange.{Asks, HasMoved, IsSilent, IsUnderWay, MeetsSilence, Turns};
-ghost use Rattle.relay_hooked.specs.Head.{IsRefusedFor, behind, link_of, may_keep, side_state};
+ghost use Rattle.relay_hooked.specs.Begins.{CallsOnce, CannotPut, IsBegun, IsRefusedFor, IsUnbegun, kept_piece};
+ghost use Rattle.relay_hooked.specs.Exchange.{Asks, HasMoved, IsSilent, IsUnderWay, MeetsSilence, SideHolds, Turns};
+ghost use Rattle.relay_hooked.specs.Head.{behind, link_of, may_keep, side_state};
 ghost use Rattle.relay_hooked.specs.Sides.{filtering};
 
 use relay_core::{Piece, Step};
@@ -52,18 +53,45 @@ pub struct Unbegun<M, C, L> {
     pub why: Fail,
 }
 
+impl<M, C> Unbegun<M, C, ()> {
+    /// The same with that link.
+    fn with_link<L>(self, link: L) -> Unbegun<M, C, L>
+        ensures { result ≡ record {
+          session = self.session;
+          ctx = self.ctx;
+          client = self.client;
+          link = link;
+          why = self.why;
+        } }
+    {
+        let Unbegun {
+            session,
+            ctx,
+            client,
+            link: (),
+            why,
+        } = self;
+        Unbegun {
+            session,
+            ctx,
+            client,
+            link,
+            why,
+        }
+    }
+}
+
 /// An exchange for the client's request behind that application, over that link, which was just
 /// handed out. The calls of the application enter the log of `session`, in whose own client's
 /// place a stand-in is; `ctx` is its context. `head` is the head that is sent, which may differ
 /// from the client's in all: the request is framed as it says, and the response towards the
-/// client as the client's says. What the client's session has kept of the body is put before any
-/// turn, as one piece that passes no filter, and with it the end of a body that has ended.
-///
-/// So it is under way where nothing is put so: the body has not ended, and none of it was read.
+/// client as the client's says. What the client's session has kept of the body passes the filter
+/// of requests as one piece, and with it the end of a body that has ended; what passes of it is
+/// put before any turn. Where nothing was kept, and the body goes on, no filter is called.
 ///
 /// `InvalidHTTPHeader` of the source `Internal`, about `BadFraming`: exactly where
-/// `request_framing` refuses the head. Then, and where memory is wanted, also for what was
-/// kept, all but the head comes back.
+/// `request_framing` refuses the head, before any call. Else the error of the filter, whose call
+/// stands in the log; or memory was wanted. Then all but the head comes back, as hooks left it.
 pub fn begin<SV: ProxyHttp, L: ByteLink, F: Front>(
     app: &SV,
     alloc: Global,
@@ -75,7 +103,7 @@ pub fn begin<SV: ProxyHttp, L: ByteLink, F: Front>(
 ) -> std::result::Result<HookedExchange<SV::Modules, SV::CTX, L>, Unbegun<SV::Modules, SV::CTX, L>>
     ensures begins { IfOk result (λ x. (front : F) (s : Origin) (came : List ℕ) (reused : Bool)
         → head ≡ s.sent → s.asked ≡ false
-        → BeginsBehind s came (F.state front) (F.ahead front) client → put_again client ≡ []
+        → BeginsBehind s came (F.state front) (F.ahead front) client
         → ((own : RequestHead) → head_of client.reading ≡ Some own
         → is_head_request own.method ≡ is_head_request s.head.method)
         → IsHandedOut (L.state link) (L.start link) reused → s.reused ≡ reused
@@ -83,22 +111,23 @@ pub fn begin<SV: ProxyHttp, L: ByteLink, F: Front>(
         (IsAllowed (SV.allows app.now) (SomeAllow SV.Modules.allows)) (SV.mark_of app.now) s
         (record { came = came; written = []; got = []; sent = [] }) (F.state front)
         (F.ahead front) x) }
-    ensures client { IfOk result (λ x. x.exchange.down.inner.session ≡ client) }
-    ensures session { IfOk result (λ x. x.exchange.down.session ≡ session) }
-    ensures ctx { IfOk result (λ x. x.exchange.down.ctx ≡ ctx) }
+    // The only call is that of the filter of requests with what is put again; where nothing is,
+    // there is none, and what hooks are shown is as it was.
+    ensures calls { IfOk result (λ x. CallsOnce session ctx client (SV.allows app.now)
+        (SV.mark_of app.now) x.exchange.down.session x.exchange.down.ctx
+        x.exchange.down.inner.session) }
+    ensures once { IfOk result (λ x. length x.exchange.down.session.seen.log
+        ≡ length session.seen.log + length (put_again client)) }
+    ensures client { IfOk result (λ x. SameButHead client x.exchange.down.inner.session) }
     ensures over { IfOk result (λ x. link_of x ≡ link) }
     ensures first { IfOk result (λ x. x.exchange.down.first ≡ length session.seen.log) }
-    ensures at_first { IfOk result (λ x. x.exchange.down.at_first
-        ≡ is_body_done client.reading) }
-    ensures client_back { IfErr result (λ unbegun. unbegun.client ≡ client) }
-    ensures session_back { IfErr result (λ unbegun. unbegun.session ≡ session) }
-    ensures ctx_back { IfErr result (λ unbegun. unbegun.ctx ≡ ctx) }
+    ensures at_first { IfOk result (λ x. x.exchange.down.at_first ≡ false) }
     ensures link_back { IfErr result (λ unbegun. unbegun.link ≡ link) }
     ensures refused { IsRefusedFor result
-        (Fail.Error (refused_from ErrorSource.Internal Context.BadFraming))
+        (Fail.Error (refused_from ErrorSource.Internal Context.BadFraming)) session.seen.log
         ↔ (request_framing head ≡ None) }
-    ensures causes { IfErr result (λ unbegun.
-        IsMemoryOr (refused_from ErrorSource.Internal Context.BadFraming) unbegun.why) }
+    ensures causes { IfErr result (IsUnbegun session ctx client (SV.allows app.now)
+        (SV.mark_of app.now) head) }
 {
     let mut peer = PeerSide::new(alloc, link);
     if let Err(why) = peer.write_request_header(head) {
@@ -110,25 +139,14 @@ pub fn begin<SV: ProxyHttp, L: ByteLink, F: Front>(
             why,
         });
     }
-    let first = match first_piece(alloc, &client) {
-        Ok(first) => first,
-        Err(why) => {
-            return Err(Unbegun {
-                session,
-                ctx,
-                client,
-                link: peer.into_link(),
-                why,
-            });
-        }
-    };
     let body_done = client.is_body_done();
-    let of_head = asks_head(&client);
-    let inner = ClientSide::new(alloc, client);
-    let hooked = Hooked::new::<F>(app, session, ctx, inner, body_done, of_head);
-    let down = hooked.suspend();
-    let exchange = Exchange::begin(alloc, down, body_done, peer, Some(first));
-    Ok(HookedExchange { exchange })
+    match put_first::<SV, F>(app, alloc, session, ctx, client) {
+        Ok((down, first)) => {
+            let exchange = Exchange::begin(alloc, down, body_done, peer, Some(first));
+            Ok(HookedExchange { exchange })
+        }
+        Err(unput) => Err(unput.with_link(peer.into_link())),
+    }
 }
 
 /// One turn behind that application, as in `Exchange::turn`: one write of the request's head, or
@@ -348,12 +366,11 @@ fn asks_head(session: &HttpSession) -> bool
     session.has_head() && is_head_request(session.req_header())
 }
 
-/// What is put of a body before more is read of it: what the session has kept of it, with the end,
-/// where the body has ended.
+/// What the session has kept of a body as one piece, with the end, where the body has ended.
 ///
 /// Fails out of memory alone.
-fn first_piece(alloc: Global, session: &HttpSession) -> Result<Piece>
-    ensures ok { IfOk result (λ piece. put_of false piece ≡ put_again session.now) }
+fn kept_of(alloc: Global, session: &HttpSession) -> Result<Piece>
+    ensures ok { IfOk result (λ piece. piece ≡ kept_piece session.now) }
     ensures memory { IsOkUnless result Fail.OutOfMemory }
 {
     let kept = session.get_retry_buffer(alloc)?;
@@ -363,4 +380,81 @@ fn first_piece(alloc: Global, session: &HttpSession) -> Result<Piece>
         upstream_end: done,
         client_end: done,
     })
+}
+
+/// Whether the piece puts a task: it is not empty, or the end.
+fn puts(piece: &Piece) -> bool
+    ensures { result ≡ is_some (task_put_of false piece.now) }
+{
+    !piece.is_empty() || piece.upstream_end
+}
+
+/// The client's side behind the filters of that application, and what is put before any turn: what
+/// passes of what the session has kept of the body. Where that puts nothing no filter is called.
+///
+/// The error of the filter, or out of memory: then all comes back, as hooks left it.
+fn put_first<SV: ProxyHttp, F: Front>(
+    app: &SV,
+    alloc: Global,
+    session: Session<SV::Modules>,
+    ctx: SV::CTX,
+    client: HttpSession,
+) -> std::result::Result<(Unhooked<SV::Modules, SV::CTX>, Piece), Unbegun<SV::Modules, SV::CTX, ()>>
+    ensures begins { IfOk result (λ r. (front : F) (s : Origin) (came : List ℕ)
+        → BeginsBehind s came (F.state front) (F.ahead front) client
+        → ((own : RequestHead) → head_of client.reading ≡ Some own
+        → is_head_request own.method ≡ is_head_request s.head.method)
+        → SideHolds (IsAllowed (SV.allows app.now) (SomeAllow SV.Modules.allows))
+        (SV.mark_of app.now) (F.state front) (F.ahead front) s r.0
+        (begun_past came (put_of false r.1))) }
+    ensures begun { IfOk result (λ r. IsBegun client r.0 r.1) }
+    ensures first { IfOk result (λ r. r.0.first ≡ length session.seen.log) }
+    ensures calls { IfOk result (λ r. CallsOnce session ctx client (SV.allows app.now)
+        (SV.mark_of app.now) r.0.session r.0.ctx r.0.inner.session) }
+    ensures causes { IfErr result (λ unput. CannotPut session ctx client (SV.allows app.now)
+        (SV.mark_of app.now) unput.why unput.session unput.ctx unput.client) }
+{
+    let kept = match kept_of(alloc, &client) {
+        Ok(kept) => kept,
+        Err(why) => {
+            return Err(Unbegun {
+                session,
+                ctx,
+                client,
+                link: (),
+                why,
+            });
+        }
+    };
+    let of_head = asks_head(&client);
+    let inner = ClientSide::new(alloc, client);
+    if !puts(&kept) {
+        let hooked = Hooked::new::<F>(app, session, ctx, inner, false, of_head);
+        return Ok((hooked.suspend(), kept));
+    }
+    let (hooked, passed) = Hooked::begin_again::<F>(app, session, ctx, inner, kept, of_head);
+    match passed {
+        Ok(made) => Ok((hooked.suspend(), made)),
+        Err(why) => Err(unput(hooked.suspend(), why)),
+    }
+}
+
+/// All that a side holds for which nothing was put, for that reason.
+fn unput<M, C>(side: Unhooked<M, C>, why: Fail) -> Unbegun<M, C, ()>
+    ensures { result ≡ record {
+      session = side.session;
+      ctx = side.ctx;
+      client = side.inner.session;
+      link = tt;
+      why = why;
+    } }
+{
+    let (inner, session, ctx) = side.into_parts();
+    Unbegun {
+        session,
+        ctx,
+        client: inner.into_session(),
+        link: (),
+        why,
+    }
 }

@@ -41,7 +41,7 @@ returns-clause-goes g c =
     }) under.down under.up (core_of was.duplex was.down.side was.up) c.turn-went.result.step
     c.settled-turn.result.step
     c.turn-went.ensures.bodies
-    (turns_by g.L.ByteLink.state g.L.ByteLink.start law g.SV.ProxyHttp.mark_of new.down.app.now
+    (turns_by law g.SV.ProxyHttp.mark_of new.down.app.now
     c.args.app.now app s (g.F.Front.state c.turn-went.new.client)
     (g.F.Front.ahead c.turn-went.new.client) new.down.side _ _ _ _ _ under.down under.up _ _
     c.turn-went.result.step went) untold c.turn-went.ensures.errors lost alive)
@@ -59,7 +59,7 @@ returns-clause-attempt g c =
     let app : new.down.app.now ≡ c.args.app.now =
     ap (λ (k : Stays g.row.SV.Denot). k.app) c.turn-went.ensures.keeps ∙ same in
     let went =
-    turns_by g.L.ByteLink.state g.L.ByteLink.start law g.SV.ProxyHttp.mark_of new.down.app.now
+    turns_by law g.SV.ProxyHttp.mark_of new.down.app.now
     c.args.app.now app s (g.F.Front.state c.turn-went.new.client)
     (g.F.Front.ahead c.turn-went.new.client) new.down.side _ _ _ _ _ under.down under.up _ _
     c.turn-went.result.step

@@ -1,0 +1,280 @@
+-- How an exchange behind filters begins: what was kept of a body, what passes of it, and the call
+-- that it passed by.
+--
+--   end_of                what a piece puts has an end exactly where the piece is one
+--   puts_none, has_head   a session of whose body something is put again has a head
+--   holds_on              what a side holds it holds held alone, of the same past
+--   calls_none, calls_by, cannot_by   what was called: nothing; or the filter of requests, and what
+--                         was kept passed, or did not
+--   grown                 the log has grown by that call
+--   refused_first, refused_later      the head is refused exactly where it has no framing
+use Rattle.std.proofs.Common.{◌≡◌, ℕ, ◌+◌, Bool, true, false, ◌||◌, ◌&&◌, not, List, [], ◌∷◌, ◌++◌, length, length-append, Option, Some, None, is_some, IsSome, option_to_list, Result, Ok, Err, ◌↔◌, arith, refl, sym, ap, subst, ◌∙◌}
+use Rattle.std.specs.Prelude.{if◌then◌else◌}
+use Rattle.std.specs.List.{list_any}
+use Rattle.std.specs.Result.{IsErrOf}
+use Rattle.relay_tasks.specs.declared.error.Fail.{Fail}
+use Rattle.relay_tasks.specs.declared.error.Fail.TheVariants as fail
+use Rattle.relay_tasks.specs.declared.log.LogEntry.{LogEntry}
+use Rattle.relay_tasks.specs.declared.task.HttpTask.{HttpTask}
+use Rattle.relay_tasks.specs.declared.task.HttpTask.TheVariants as task
+use Rattle.relay_tasks.specs.Head.{RequestHead}
+use Rattle.relay_tasks.specs.Task.{is_end}
+use Rattle.relay_h1.specs.Framing.{request_framing}
+use Rattle.relay_session.specs.Reading.{head_of, is_body_done, replay_of}
+use Rattle.relay_session.specs.Replay.{retry_buffer}
+use Rattle.relay_session.specs.TaskWire.{bad_framing}
+use Rattle.relay_session.specs.declared.reading.Reading.{Reading}
+use Rattle.relay_session.specs.declared.reading.Reading.TheVariants as reading
+use Rattle.relay_session.specs.declared.session.HttpSession.{HttpSession}
+use Rattle.relay_modules.specs.declared.session.Session.{Session}
+use Rattle.relay_links.specs.Link.{LinkState}
+use Rattle.relay_core.specs.Past.{Origin, DownPast}
+use Rattle.relay_core.specs.Piece.{is_empty, put_of, task_put_of}
+use Rattle.relay_core.specs.declared.piece.Piece.{Piece}
+use Rattle.relay_hooks.specs.Standing.{Standing}
+use Rattle.relay_sides.specs.Client.{put_again}
+use Rattle.relay_filters.specs.Hooked.{seen_by}
+use Rattle.relay_filters.specs.Request.{Filters, is_last}
+use Rattle.relay_filters.specs.declared.unhooked.Unhooked.{Unhooked}
+use Rattle.relay_hooked.specs.Begins.{CallsOnce, CannotPut, IsRefusedFor, kept_piece}
+use Rattle.relay_hooked.specs.Exchange.{SideHolds}
+use Rattle.relay_hooked.specs.declared.exchange.HookedExchange.{HookedExchange}
+use Rattle.relay_hooked.specs.declared.exchange.Unbegun.{Unbegun}
+use Rattle.relay_hooked.proofs.AppLemmas.{holds_by}
+
+-- ---- a piece
+
+-- what a piece puts has an end exactly where the piece is one
+pub end_of : (piece : Piece) → list_any is_end (put_of false piece) ≡ piece.upstream_end
+end_of piece = of (is_empty piece.bytes) piece.upstream_end
+  where
+    of : (none end : Bool)
+        → list_any is_end (option_to_list
+        (if none && not end then None else Some (task.Body piece.bytes end))) ≡ end
+    of true true = refl
+    of true false = refl
+    of false true = refl
+    of false false = refl
+
+-- it puts nothing
+pub puts_none : (piece : Piece) → is_some (task_put_of false piece) ≡ false
+    → put_of false piece ≡ []
+puts_none piece = of (task_put_of false piece)
+  where
+    of : (put : Option HttpTask) → is_some put ≡ false → option_to_list put ≡ []
+    of None none = refl
+    of (Some task) none = absurd (cc)
+
+-- or one task
+pub puts_one : (piece : Piece) → is_some (task_put_of false piece) ≡ true
+    → length (put_of false piece) ≡ 1
+puts_one piece = of (task_put_of false piece)
+  where
+    of : (put : Option HttpTask) → is_some put ≡ true → length (option_to_list put) ≡ 1
+    of None some = absurd (cc)
+    of (Some task) some = refl
+
+-- ---- what was kept
+
+-- a session of whose body something is put again has a head
+pub has_head : (client : HttpSession) → is_some (task_put_of false (kept_piece client)) ≡ true
+    → IsSome (head_of client.reading)
+has_head client = of client.reading
+  where
+    of : (now : Reading)
+        → is_some (task_put_of false (record {
+          bytes = retry_buffer (replay_of now);
+          upstream_end = is_body_done now;
+          client_end = is_body_done now;
+        })) ≡ true
+        → IsSome (head_of now)
+    of reading.Head some = absurd (cc)
+    of (reading.Body request) some = grind arith
+
+-- what was kept is told as the end only where it is put as one
+pub last_is_end : (client : HttpSession) → is_last (kept_piece client) ≡ true
+    → list_any is_end (put_of false (kept_piece client)) ≡ true
+last_is_end client last = end_of (kept_piece client) ∙ one (is_body_done client.reading) last
+  where
+    one : (done : Bool) → (done || done) ≡ true → done ≡ true
+    one true is = refl
+    one false is = is
+
+-- ---- the side
+
+-- what a side holds by the law of an application it holds by that of the same, held alone, of the
+-- same past
+pub holds_on : {A M C : Type 0} (law : A → Standing → LogEntry → Type 0) (mark : A → C → ℕ)
+    (a b : A) → a ≡ b → (s : Origin) (link : LinkState) (ahead : List ℕ) (u held : Unhooked M C)
+    → held ≡ u → (p q : DownPast) → p ≡ q → SideHolds (law a) (mark a) link ahead s u p
+    → SideHolds (law b) (mark b) link ahead s held q
+holds_on {A} {M} {C} law mark a b same s link ahead u held is p q past h =
+    subst (λ (r : DownPast). SideHolds (law b) (mark b) link ahead s held r) past
+    (subst (λ (x : Unhooked M C). SideHolds (law b) (mark b) link ahead s x p) (sym is)
+    (holds_by law mark a b same s link ahead u p h))
+
+-- ---- the calls
+
+module _ {M C : Type 0} (session : Session M) (ctx : C) (client : HttpSession)
+    (allows : Standing → LogEntry → Type 0) (mark_of : C → ℕ) (session' : Session M) (ctx' : C)
+    (client' : HttpSession)
+  where
+    -- the log has grown by as many entries as tasks are put again
+    pub grown : CallsOnce session ctx client allows mark_of session' ctx' client'
+        → length session'.seen.log ≡ length session.seen.log + length (put_again client)
+    grown (CallsOnce.none empty same) =
+        let log = ap (λ (s : Session M). length s.seen.log) same.session_same in
+        let empty : length (put_again client) ≡ 0 =
+        ap (λ (l : List HttpTask). length l) empty in
+        omega arith
+    grown (CallsOnce.once one made f) =
+        let log = ap (λ (l : List LogEntry). length l) f.call.log ∙ length-append session.seen.log _ in
+        omega arith
+
+module _ {M C : Type 0} (session : Session M) (ctx : C) (client : HttpSession)
+    (allows : Standing → LogEntry → Type 0) (mark_of : C → ℕ) (u held : Unhooked M C)
+    (is : held ≡ u)
+  where
+    -- no hook was called
+    pub calls_none : put_again client ≡ [] → u.session ≡ session → u.ctx ≡ ctx
+        → u.inner.session ≡ client
+        → CallsOnce session ctx client allows mark_of held.session held.ctx held.inner.session
+    calls_none empty session_same ctx_same client_same =
+        subst (λ (x : Unhooked M C).
+        CallsOnce session ctx client allows mark_of x.session x.ctx x.inner.session) (sym is)
+        (CallsOnce.none empty (record {
+          session_same = session_same;
+          ctx_same = ctx_same;
+          client_same = client_same;
+        }))
+
+    module _ (kept : Piece) (is_kept : kept ≡ kept_piece client)
+        (puts : is_some (task_put_of false kept) ≡ true) (lent : HttpSession)
+        (is_lent : lent ≡ client) (result : Result Piece Fail)
+        (filters : Filters allows false kept result (seen_by session.seen lent) (mark_of ctx)
+        (seen_by u.session.seen u.inner.session) (mark_of u.ctx))
+      where
+        -- the call was that of what was kept
+        by_kept : (answer : Result Piece Fail) → result ≡ answer
+            → Filters allows false (kept_piece client) answer (seen_by session.seen client)
+            (mark_of ctx) (seen_by u.session.seen u.inner.session) (mark_of u.ctx)
+        by_kept answer answers =
+            subst (λ (r : Result Piece Fail).
+            Filters allows false (kept_piece client) r (seen_by session.seen client) (mark_of ctx)
+            (seen_by u.session.seen u.inner.session) (mark_of u.ctx)) answers
+            (subst (λ (c : HttpSession).
+            Filters allows false (kept_piece client) result (seen_by session.seen c) (mark_of ctx)
+            (seen_by u.session.seen u.inner.session) (mark_of u.ctx)) is_lent
+            (subst (λ (k : Piece).
+            Filters allows false k result (seen_by session.seen lent) (mark_of ctx)
+            (seen_by u.session.seen u.inner.session) (mark_of u.ctx)) is_kept filters))
+
+        -- which put one task
+        one : length (put_again client) ≡ 1
+        one = subst (λ (k : Piece). length (put_of false k) ≡ 1) is_kept (puts_one kept puts)
+
+        -- what was kept passed its filter
+        pub calls_by : (made : Piece) → result ≡ Ok made
+            → CallsOnce session ctx client allows mark_of held.session held.ctx held.inner.session
+        calls_by made passed =
+            subst (λ (x : Unhooked M C).
+            CallsOnce session ctx client allows mark_of x.session x.ctx x.inner.session) (sym is)
+            (CallsOnce.once one made (by_kept (Ok made) passed))
+
+        -- it did not, over the side alone
+        cannot : (why : Fail) → result ≡ Err why
+            → CannotPut session ctx client allows mark_of why u.session u.ctx u.inner.session
+        cannot (fail.Error e) failed =
+            CannotPut.by_filter e refl one (by_kept (Err (fail.Error e)) failed)
+        cannot fail.OutOfMemory failed =
+            CannotPut.in_filter refl one (by_kept (Err fail.OutOfMemory) failed)
+
+        -- and over all that comes back
+        pub cannot_by : (why : Fail) → result ≡ Err why → (x : Unbegun M C Unit)
+            → x ≡ record {
+              session = held.session;
+              ctx = held.ctx;
+              client = held.inner.session;
+              link = tt;
+              why = why;
+            }
+            → CannotPut session ctx client allows mark_of x.why x.session x.ctx x.client
+        cannot_by why failed x back =
+            subst (λ (y : Unbegun M C Unit).
+            CannotPut session ctx client allows mark_of y.why y.session y.ctx y.client) (sym back)
+            (subst (λ (h : Unhooked M C).
+            CannotPut session ctx client allows mark_of why h.session h.ctx h.inner.session)
+            (sym is) (cannot why failed))
+
+-- ---- what is refused
+
+-- no list is itself with one more
+one_more : {A : Type 0} (xs : List A) (x : A) → xs ≡ xs ++ x ∷ [] → ⊥
+one_more {A} xs x is =
+    let longer = ap (λ (l : List A). length l) is ∙ length-append xs (x ∷ []) in omega arith
+
+module _ {M C L : Type 0} (session : Session M) (ctx : C) (client : HttpSession)
+    (allows : Standing → LogEntry → Type 0) (mark_of : C → ℕ) (head : RequestHead)
+  where
+    -- the exchange was refused so, and the log is as it was
+    abbrev Refuses : Unbegun M C L → Type 0
+    Refuses x =
+        IsRefusedFor {M = M} {C = C} {L = L} (Err x) (fail.Error bad_framing) session.seen.log
+
+    -- one that was not begun is that one
+    same_unbegun : (x other : Unbegun M C L)
+        → ◌≡◌ {A = Result (HookedExchange M C L) (Unbegun M C L)} (Err x) (Err other) → other ≡ x
+    same_unbegun x other same = cc
+
+    -- where nothing could be put first the head was not refused: a filter that answered the same
+    -- error has its call in the log
+    not_refused : (x : Unbegun M C L)
+        → CannotPut session ctx client allows mark_of x.why x.session x.ctx x.client
+        → x.why ≡ fail.Error bad_framing → x.session.seen.log ≡ session.seen.log → ⊥
+    not_refused x (CannotPut.before memory same) why log = absurd (cc)
+    not_refused x (CannotPut.by_filter e is one f) why log =
+        one_more session.seen.log _ (sym log ∙ f.call.log)
+    not_refused x (CannotPut.in_filter memory one same) why log = absurd (cc)
+
+    -- nothing could be put first of a request whose head has a framing
+    pub refused_later : (x : Unbegun M C L)
+        → CannotPut session ctx client allows mark_of x.why x.session x.ctx x.client
+        → (request_framing head ≡ None → ⊥) → Refuses x ↔ (request_framing head ≡ None)
+    refused_later x why framed = (
+      λ r. absurd (of r.0 (same_unbegun x r.0 r.1) r.2 r.3),
+      λ none. absurd (framed none),
+    )
+      where
+        of : (other : Unbegun M C L) → other ≡ x → other.why ≡ fail.Error bad_framing
+            → other.session.seen.log ≡ session.seen.log → ⊥
+        of other is because log =
+            not_refused x why (ap (λ (u : Unbegun M C L). u.why) (sym is) ∙ because)
+            (ap (λ (u : Unbegun M C L). u.session.seen.log) (sym is) ∙ log)
+
+    -- the head was refused, or memory was wanted for it
+    pub refused_first : {T : Type 0} (link : L) (why : Fail)
+        → IsErrOf {T = T} (Err why) (fail.Error bad_framing) ↔ (request_framing head ≡ None)
+        → Refuses (record {
+          session = session;
+          ctx = ctx;
+          client = client;
+          link = link;
+          why = why;
+        })
+        ↔ (request_framing head ≡ None)
+    refused_first {T} link why same =
+        let x : Unbegun M C L = record {
+          session = session;
+          ctx = ctx;
+          client = client;
+          link = link;
+          why = why;
+        } in (
+          λ r. same.0 (ap (λ (w : Fail). Err w)
+              (ap (λ (u : Unbegun M C L). u.why) (sym (same_unbegun x r.0 r.1)) ∙ r.2)),
+          λ none. (x, refl, as_err (same.1 none), refl),
+        )
+      where
+        as_err : ◌≡◌ {A = Result T Fail} (Err why) (Err (fail.Error bad_framing))
+            → why ≡ fail.Error bad_framing
+        as_err is = cc

@@ -1,0 +1,94 @@
+-- How an exchange behind filters begins: what was kept of the client's body passes the filter of
+-- requests, by one call, and what passes of it is put before more is read.
+use Rattle.std.specs.Prelude.{◌≡◌, ◌⊎◌, ℕ, Bool, true, false, List, [], length, Option, None, Result, Err}
+use Rattle.std.specs.List.{list_any}
+use Rattle.relay_tasks.specs.declared.error.Error.{Error}
+use Rattle.relay_tasks.specs.declared.error.Fail.{Fail}
+use Rattle.relay_tasks.specs.declared.error.Fail.TheVariants as fail
+use Rattle.relay_tasks.specs.declared.log.LogEntry.{LogEntry}
+use Rattle.relay_tasks.specs.Head.{RequestHead}
+use Rattle.relay_tasks.specs.Task.{is_end}
+use Rattle.relay_h1.specs.Framing.{request_framing}
+use Rattle.relay_session.specs.Reading.{is_body_done, replay_of}
+use Rattle.relay_session.specs.Replay.{retry_buffer}
+use Rattle.relay_session.specs.TaskWire.{bad_framing}
+use Rattle.relay_session.specs.declared.session.HttpSession.{HttpSession}
+use Rattle.relay_modules.specs.declared.session.Session.{Session}
+use Rattle.relay_core.specs.Piece.{put_of}
+use Rattle.relay_core.specs.declared.piece.Piece.{Piece}
+use Rattle.relay_hooks.specs.Standing.{Standing}
+use Rattle.relay_sides.specs.Client.{put_again}
+use Rattle.relay_filters.specs.Hooked.{seen_by}
+use Rattle.relay_filters.specs.Request.{Filtered, Refused}
+use Rattle.relay_filters.specs.declared.unhooked.Unhooked.{Unhooked}
+use Rattle.relay_hooked.specs.declared.exchange.HookedExchange.{HookedExchange}
+use Rattle.relay_hooked.specs.declared.exchange.Unbegun.{Unbegun}
+
+-- what was kept of a body as one piece, with the end of a body that has ended
+abbrev pub kept_piece : HttpSession → Piece
+kept_piece client = record {
+  bytes = retry_buffer (replay_of client.reading);
+  upstream_end = is_body_done client.reading;
+  client_end = is_body_done client.reading;
+}
+
+-- a side that has that put first, over the client's session: it goes on and has told no error. Its
+-- request has ended exactly where what is put is an end, as it has where the client's body has
+-- ended; and it had not before its first call
+pub record IsBegun {M C : Type 0} (client : HttpSession) (u : Unhooked M C) (piece : Piece)
+    : Type 0 where
+  pub ended : u.ended ≡ list_any is_end (put_of false piece)
+  pub done : is_body_done client.reading ≡ true → u.ended ≡ true
+  pub body : is_body_done u.inner.session.reading ≡ is_body_done client.reading
+  pub goes_on : u.stopped ≡ None
+  pub untold : u.told.errors ≡ 0
+  pub at_first : u.at_first ≡ false
+
+-- by the session, the context and the client's session that an exchange is given
+module _ {M C : Type 0} (session : Session M) (ctx : C) (client : HttpSession) where
+  -- no hook was called: these are the same
+  pub record AreSame (session' : Session M) (ctx' : C) (client' : HttpSession) : Type 0 where
+    pub session_same : session' ≡ session
+    pub ctx_same : ctx' ≡ ctx
+    pub client_same : client' ≡ client
+
+  module _ (allows : Standing → LogEntry → Type 0) (mark_of : C → ℕ) where
+    -- what the beginning called, up to these: no hook, where nothing is put again; or the filter of
+    -- requests, once, which was given what is put again and let that pass
+    pub data CallsOnce (session' : Session M) (ctx' : C) (client' : HttpSession) : Type 0 where
+      none : put_again client ≡ [] → AreSame session' ctx' client'
+          → CallsOnce session' ctx' client'
+      once : length (put_again client) ≡ 1 → (made : Piece)
+          → Filtered allows false (kept_piece client) made (seen_by session.seen client)
+          (mark_of ctx) (seen_by session'.seen client') (mark_of ctx')
+          → CallsOnce session' ctx' client'
+
+    -- why nothing could be put first, and what that left: memory was wanted before any call; or the
+    -- filter of requests was called with what is put again, and its call, the only one, stands in
+    -- the log with its error; or memory was wanted in it, and no call stands there
+    pub data CannotPut (why : Fail) (session' : Session M) (ctx' : C) (client' : HttpSession)
+        : Type 0 where
+      before : why ≡ fail.OutOfMemory → AreSame session' ctx' client'
+          → CannotPut why session' ctx' client'
+      by_filter : (e : Error) → why ≡ fail.Error e → length (put_again client) ≡ 1
+          → Refused allows e (kept_piece client) (seen_by session.seen client) (mark_of ctx)
+          (seen_by session'.seen client') (mark_of ctx')
+          → CannotPut why session' ctx' client'
+      in_filter : why ≡ fail.OutOfMemory → length (put_again client) ≡ 1
+          → session'.seen.log ≡ session.seen.log
+          → CannotPut why session' ctx' client'
+
+    -- why an exchange was not begun, and what came back: the head has no framing, and no hook was
+    -- called; or nothing could be put first
+    abbrev pub IsUnbegun : {L : Type 0} → RequestHead → Unbegun M C L → Type 0
+    IsUnbegun head x =
+        ((x.why ≡ fail.Error bad_framing) × (request_framing head ≡ None)
+        × AreSame x.session x.ctx x.client)
+        ⊎ CannotPut x.why x.session x.ctx x.client
+
+-- the exchange was not begun, for that reason, and the log is that one
+abbrev pub IsRefusedFor : {M C L : Type 0} → Result (HookedExchange M C L) (Unbegun M C L) → Fail
+    → List LogEntry → Type 0
+IsRefusedFor {M} {C} {L} result why log =
+    (unbegun : Unbegun M C L) × (result ≡ Err unbegun) × (unbegun.why ≡ why)
+    × (unbegun.session.seen.log ≡ log)
