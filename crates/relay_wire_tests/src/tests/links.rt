@@ -1,9 +1,13 @@
 use bytes::Bytes;
 use relay_links::*;
 use relay_tasks::{Fault, FaultKind, Peer, PurgeAction, Purged, RetryType};
-use std::alloc::Global;
+use std::alloc::{AllocError, Global};
 use std::io;
 use std::test::Fail;
+
+type Checked = Result<(), Fail>;
+
+type Made<T> = Result<T, AllocError>;
 
 const TIMED_OUT: Fault = Fault {
     kind: FaultKind::ReadTimedout,
@@ -30,190 +34,235 @@ fn get_from<C: Connector>(connector: &mut C, peer: &Peer) -> Result<(C::Byte, bo
     connector.get(peer)
 }
 
-/// A link that reads so, and takes all.
-fn reading(alloc: Global) -> Result<ScriptLink, Fail> {
-    let read = vec![in alloc;
-        ReadItem::Bytes(Bytes::from_static(b"")),
-        ReadItem::Bytes(Bytes::from_static(b"GET /")),
-        ReadItem::Wait(1),
-        ReadItem::After(2),
-        ReadItem::Fault(TIMED_OUT),
-        ReadItem::End,
-    ]?;
-    Ok(ScriptLink::new(alloc, read, vec![in alloc]?))
+/// How the connector refuses, if it does.
+fn refusal(connector: &mut ScriptConnector) -> Option<RetryType> {
+    match get_from(connector, &peer()) {
+        Ok(_) => None,
+        Err(fault) => Some(fault.retry),
+    }
 }
 
-#[test]
-fn reads_are_answered_by_the_items_in_order(rt: HostRuntime) -> Result<(), Fail> {
-    let mut link = reading(rt.alloc())?;
-    assert_eq!(rt; read_three(&mut link), (Got::Bytes(3), *b"GET"));
-    assert_eq!(rt; read_three(&mut link), (Got::Bytes(2), [b' ', b'/', 0]));
-    assert_eq!(rt; read_three(&mut link).0, Got::NotReady);
-    assert_eq!(rt; read_three(&mut link).0, Got::Silent);
-    assert_eq!(rt; link.used(), 3);
-    Ok(())
-}
-
-#[test]
-fn a_silence_ends_with_the_bytes_that_it_waits_for(rt: HostRuntime) -> Result<(), Fail> {
-    let alloc = rt.alloc();
-    let read = vec![in alloc;
-        ReadItem::After(2),
-        ReadItem::Fault(TIMED_OUT),
-        ReadItem::End,
-    ]?;
-    let mut link = ScriptLink::new(alloc, read, vec![in alloc]?);
-    assert_eq!(rt; read_three(&mut link).0, Got::Silent);
-    assert_eq!(rt; link.write(b"ab"), Put::Took(2));
-    assert_eq!(rt; read_three(&mut link).0, Got::Failed(TIMED_OUT));
-    assert_eq!(rt; read_three(&mut link).0, Got::End);
-    assert_eq!(rt; read_three(&mut link).0, Got::End);
-    assert_eq!(rt; link.faults(), 1);
-    Ok(())
-}
-
-#[test]
-fn writes_are_answered_by_the_items_in_order(rt: HostRuntime) -> Result<(), Fail> {
-    let alloc = rt.alloc();
+/// A link that reads so, and takes two bytes and then all.
+fn link_of(alloc: Global, first: ReadItem, second: ReadItem) -> Made<ScriptLink> {
+    let read = vec![in alloc; first, second]?;
     let write = vec![in alloc; WriteItem::Wait(1), WriteItem::Take(2)]?;
-    let mut link = ScriptLink::new(alloc, vec![in alloc]?, write);
-    assert_eq!(rt; link.write(b"abc"), Put::NotReady);
-    assert_eq!(rt; link.write(b"abc"), Put::Took(2));
-    assert_eq!(rt; link.write(b"cde"), Put::Took(3));
-    assert_eq!(rt; link.taken(), b"abcde".as_slice());
+    Ok(ScriptLink::new(alloc, read, write))
+}
+
+fn reads_its_items(alloc: Global) -> Made<bool> {
+    let bytes = ReadItem::Bytes(Bytes::from_static(b"GET /"));
+    let mut link = link_of(alloc, bytes, ReadItem::Fault(TIMED_OUT))?;
+    let first = read_three(&mut link) == (Got::Bytes(3), *b"GET");
+    let second = read_three(&mut link) == (Got::Bytes(2), [b' ', b'/', 0]);
+    let third = read_three(&mut link).0 == Got::Failed(TIMED_OUT);
+    Ok(first && second && third && link.used() == 3 && link.faults() == 1)
+}
+
+#[test]
+fn reads_are_answered_by_the_items_in_order(rt: HostRuntime) -> Checked {
+    assert!(rt; reads_its_items(rt.alloc())?);
+    Ok(())
+}
+
+fn is_silent_till_written_to(alloc: Global) -> Made<bool> {
+    let mut link = link_of(alloc, ReadItem::After(2), ReadItem::End)?;
+    let silent = read_three(&mut link).0;
+    let first = link.write(b"ab");
+    let second = link.write(b"ab");
+    let end = read_three(&mut link).0;
+    Ok(silent == Got::Silent && first == Put::NotReady && second == Put::Took(2) && end == Got::End)
+}
+
+#[test]
+fn a_silence_ends_with_the_bytes_that_it_waits_for(rt: HostRuntime) -> Checked {
+    assert!(rt; is_silent_till_written_to(rt.alloc())?);
+    Ok(())
+}
+
+fn keeps_what_it_takes(alloc: Global) -> Made<bool> {
+    let mut link = link_of(alloc, ReadItem::Wait(1), ReadItem::End)?;
+    let waits = link.write(b"abc") == Put::NotReady;
+    let takes = link.write(b"abc") == Put::Took(2);
     link.hand_out(true);
-    assert_eq!(rt; link.start_taken(), 5);
-    Ok(())
+    Ok(waits && takes && link.taken() == b"ab".as_slice() && link.start_taken() == 2)
 }
 
 #[test]
-fn a_connector_hands_out_its_entries_and_keeps_what_comes_back(
-    rt: HostRuntime,
-) -> Result<(), Fail> {
-    let alloc = rt.alloc();
-    let peers = vec![in alloc;
-        PeerScript {
-            name: Bytes::from_static(b"one"),
-            link: reading(alloc)?,
-            connect: None,
-        },
-        PeerScript {
-            name: Bytes::from_static(b"two"),
-            link: reading(alloc)?,
-            connect: Some(RetryType::Decided(true)),
-        },
-    ]?;
-    let mut connector = ScriptConnector::new(alloc, peers).ok().ok_or("memory")?;
-    let asked = peer();
-    match connector.get(&asked) {
+fn writes_are_answered_by_the_items_in_order(rt: HostRuntime) -> Checked {
+    assert!(rt; keeps_what_it_takes(rt.alloc())?);
+    Ok(())
+}
+
+fn script_of(alloc: Global, connect: Option<RetryType>) -> Made<PeerScript> {
+    Ok(PeerScript {
+        name: Bytes::from_static(b"one"),
+        link: link_of(alloc, ReadItem::Wait(1), ReadItem::End)?,
+        connect,
+    })
+}
+
+fn connector(alloc: Global) -> Result<ScriptConnector, Fail> {
+    let first = script_of(alloc, None)?;
+    let second = script_of(alloc, Some(RetryType::Decided(true)))?;
+    let connector = ScriptConnector::new(alloc, vec![in alloc; first, second]?);
+    Ok(connector.ok().ok_or("memory")?)
+}
+
+/// Takes a link and hands it back; whether it was new.
+fn takes_new(connector: &mut ScriptConnector) -> bool {
+    match connector.get(&peer()) {
         Ok((link, reused)) => {
-            assert!(rt; !reused);
             connector.release(peer(), link, true);
+            !reused
         }
-        Err(fault) => assert_eq!(rt; fault, TIMED_OUT, "the first entry has a link"),
+        Err(_) => false,
     }
-    assert_eq!(rt; connector.returned().len(), 1);
-    let refused = get_from(&mut connector, &asked).err().ok_or("no fault")?;
-    assert_eq!(rt; refused.retry, RetryType::Decided(true));
-    let past = get_from(&mut connector, &asked).err().ok_or("no fault")?;
-    assert_eq!(rt; past.retry, RetryType::Decided(false));
-    assert_eq!(rt; connector.faults(), 2);
-    Ok(())
+}
+
+fn hands_out_its_entries(alloc: Global) -> Result<bool, Fail> {
+    let mut connector = connector(alloc)?;
+    let taken = takes_new(&mut connector);
+    let refused = refusal(&mut connector);
+    let past = refusal(&mut connector);
+    let kept = connector.returned().len() == 1 && connector.faults() == 2;
+    Ok(
+        taken
+            && kept
+            && refused == Some(RetryType::Decided(true))
+            && past == Some(RetryType::Decided(false)),
+    )
 }
 
 #[test]
-fn a_list_names_its_branches(rt: HostRuntime) -> Result<(), Fail> {
-    let mut list = ListSchedule::new(vec![in rt.alloc(); Branch::UpRead]?);
-    assert_eq!(rt; list.pick(BranchSet::new()), Some(Branch::UpRead));
-    assert_eq!(rt; list.pick(BranchSet::new()), None);
-    assert_eq!(rt; list.last(), None);
+fn a_connector_hands_out_its_entries_and_keeps_what_comes_back(rt: HostRuntime) -> Checked {
+    assert!(rt; hands_out_its_entries(rt.alloc())?);
     Ok(())
 }
 
+fn lists(alloc: Global) -> Made<bool> {
+    let mut list = ListSchedule::new(vec![in alloc; Branch::UpRead]?);
+    let first = list.pick(BranchSet::new());
+    let second = list.pick(BranchSet::new());
+    Ok(first == Some(Branch::UpRead) && second.is_none() && list.last().is_none())
+}
+
 #[test]
-fn a_round_names_what_is_enabled(rt: HostRuntime) -> Result<(), Fail> {
+fn a_list_names_its_branches(rt: HostRuntime) -> Checked {
+    assert!(rt; lists(rt.alloc())?);
+    Ok(())
+}
+
+fn both_down() -> BranchSet {
+    let mut enabled = BranchSet::new();
+    enabled.insert(Branch::MessageDown);
+    enabled.insert(Branch::DownRead);
+    enabled
+}
+
+fn goes_round() -> bool {
     let mut round = RoundRobin::new();
-    for want in [Branch::DownRead, Branch::MessageDown, Branch::DownRead] {
-        let mut enabled = BranchSet::new();
-        enabled.insert(Branch::MessageDown);
-        enabled.insert(Branch::DownRead);
-        assert_eq!(rt; enabled.first(), Some(Branch::DownRead));
-        assert_eq!(rt; round.pick(enabled), Some(want));
-    }
-    assert_eq!(rt; round.last(), Some(Branch::DownRead));
-    Ok(())
+    let first = round.pick(both_down());
+    let second = round.pick(both_down());
+    first == both_down().first()
+        && second == Some(Branch::MessageDown)
+        && round.last() == Some(Branch::MessageDown)
 }
 
 #[test]
-fn a_source_fails_at_the_listed_calls(rt: HostRuntime) -> Result<(), Fail> {
-    let mut source = SliceSource::new(b"abcd", vec![in rt.alloc(); 2]?);
+fn a_round_names_what_is_enabled(rt: HostRuntime) {
+    assert!(rt; goes_round());
+}
+
+/// One read into a room of three bytes.
+fn take_three<S: Source>(source: &mut S) -> Read {
     let mut room = [0; 3];
-    assert_eq!(rt; source.read(&mut room), Read::Bytes(3));
-    assert_eq!(rt; source.read(&mut room), Read::Failed);
-    assert_eq!(rt; source.read(&mut room), Read::Bytes(1));
-    assert_eq!(rt; source.read(&mut room), Read::End);
-    assert_eq!(rt; source.faults(), 1);
-    Ok(())
+    source.read(&mut room)
+}
+
+fn source_fails(alloc: Global) -> Made<bool> {
+    let mut source = SliceSource::new(b"abcd", vec![in alloc; 2]?);
+    let first = take_three(&mut source);
+    let second = take_three(&mut source);
+    Ok(first == Read::Bytes(3) && second == Read::Failed && source.faults() == 1)
+}
+
+fn sink_fails(alloc: Global) -> Made<bool> {
+    let mut sink = VecSink::new(alloc, vec![in alloc; 1]?);
+    let first = sink.write(b"lost");
+    let second = sink.write(b"kept");
+    let kept = sink.bytes() == b"kept".as_slice() && sink.faults() == 1;
+    Ok(first == Wrote::Failed && second == Wrote::Took(4) && kept)
 }
 
 #[test]
-fn a_sink_fails_at_the_listed_calls(rt: HostRuntime) -> Result<(), Fail> {
-    let alloc = rt.alloc();
-    let mut sink = VecSink::new(alloc, vec![in alloc; 1]?);
-    assert_eq!(rt; sink.write(b"lost"), Wrote::Failed);
-    assert_eq!(rt; sink.write(b"kept"), Wrote::Took(4));
-    assert_eq!(rt; sink.bytes(), b"kept".as_slice());
-    assert_eq!(rt; sink.faults(), 1);
+fn a_source_and_a_sink_fail_at_the_listed_calls(rt: HostRuntime) -> Checked {
+    assert!(rt; source_fails(rt.alloc())?);
+    assert!(rt; sink_fails(rt.alloc())?);
     Ok(())
+}
+
+fn gives_what_its_reader_gives() -> bool {
+    let mut source = StdSource::new(b"ab".as_slice());
+    let first = take_three(&mut source);
+    let second = take_three(&mut source);
+    first == Read::Bytes(2) && second == Read::End && source.faults() == 0
 }
 
 #[test]
 fn a_standard_source_gives_what_its_reader_gives(rt: HostRuntime) {
-    let mut source = StdSource::new(b"ab".as_slice());
-    let mut room = [0; 3];
-    assert_eq!(rt; source.read(&mut room), Read::Bytes(2));
-    assert_eq!(rt; source.read(&mut room), Read::End);
-    assert_eq!(rt; source.faults(), 0);
+    assert!(rt; gives_what_its_reader_gives());
 }
 
 #[test]
 fn a_standard_sink_takes_what_its_writer_takes(rt: HostRuntime) {
     let mut sink = StdSink::new(io::sink());
-    assert_eq!(rt; sink.write(b"ab"), Wrote::Took(2));
-    assert_eq!(rt; sink.faults(), 0);
+    let took = sink.write(b"ab");
+    assert!(rt; took == Wrote::Took(2) && sink.faults() == 0);
+}
+
+fn is_set_second() -> bool {
+    let mut watch = ShutdownAt::new(Some(2));
+    let first = watch.is_set();
+    let second = watch.is_set();
+    !first && second && watch.sightings() == 1
 }
 
 #[test]
 fn a_watch_is_set_from_its_look_on(rt: HostRuntime) {
-    let mut watch = ShutdownAt::new(Some(2));
-    assert!(rt; !watch.is_set());
-    assert!(rt; watch.is_set());
-    assert_eq!(rt; watch.sightings(), 1);
+    assert!(rt; is_set_second());
+}
+
+fn delays() -> bool {
+    let mut delay = CountDelay::new();
+    delay.delay(30);
+    delay.delay(12);
+    delay.calls() == 2 && delay.total() == 42
 }
 
 #[test]
 fn a_delay_counts(rt: HostRuntime) {
-    let mut delay = CountDelay::new();
-    delay.delay(30);
-    delay.delay(12);
-    assert_eq!(rt; delay.calls(), 2);
-    assert_eq!(rt; delay.total(), 42);
+    assert!(rt; delays());
+}
+
+fn purges(alloc: Global) -> bool {
+    let mut purger = MemoryPurger::new(alloc, Purged::Failed(TIMED_OUT));
+    let answer = purger.purge(PurgeAction::Delete, b"host", b"/");
+    answer == Purged::Failed(TIMED_OUT) && purger.faults() == 1 && purger.calls().len() == 1
 }
 
 #[test]
 fn a_purger_keeps_its_calls(rt: HostRuntime) {
-    let mut purger = MemoryPurger::new(rt.alloc(), Purged::Failed(TIMED_OUT));
-    let answer = purger.purge(PurgeAction::Delete, b"host", b"/");
-    assert_eq!(rt; answer, Purged::Failed(TIMED_OUT));
-    assert_eq!(rt; purger.faults(), 1);
-    assert_eq!(rt; purger.calls().len(), 1);
+    assert!(rt; purges(rt.alloc()));
+}
+
+fn is_mute() -> bool {
+    let mut mute = MuteLink::new(false);
+    let took = mute.write(b"ab");
+    let got = read_three(&mut mute).0;
+    took == Put::Took(2) && got == Got::End && mute.used() == 2 && mute.faults() == 0
 }
 
 #[test]
 fn a_mute_link_takes_all_and_has_ended(rt: HostRuntime) {
-    let mut mute = MuteLink::new(false);
-    assert_eq!(rt; mute.write(b"ab"), Put::Took(2));
-    assert_eq!(rt; read_three(&mut mute).0, Got::End);
-    assert_eq!(rt; mute.used(), 2);
-    assert_eq!(rt; mute.faults(), 0);
+    assert!(rt; is_mute());
 }

@@ -6,138 +6,152 @@ use http_header::{HOST, HeaderValue, VIA};
 use http_uri::Uri;
 use relay_tasks::*;
 use std::alloc::Global;
-use std::test::Fail as Failed;
-
-type Checked = std::result::Result<(), Failed>;
 
 fn get(alloc: Global, target: &[u8]) -> Result<RequestHeader> {
     RequestHeader::build(alloc, &Method::GET, target)
 }
 
-#[test]
-fn copies_a_request_head(rt: HostRuntime) -> Checked {
-    let head = get(rt.alloc(), b"/start?now")?;
-    let copy = head.copy()?;
-    assert!(rt; copy.raw_path() == b"/start?now".as_slice());
-    assert!(rt; copy.raw_path_is_utf8());
-    assert!(rt; copy.version() == Version::HTTP_11);
-    Ok(())
+fn copies_request(alloc: Global) -> Result<bool> {
+    let copy = get(alloc, b"/start?now")?.copy()?;
+    let line = copy.raw_path_is_utf8() && copy.version() == Version::HTTP_11;
+    Ok(line && copy.raw_path() == b"/start?now".as_slice())
 }
 
-#[test]
-fn sets_method_and_version(rt: HostRuntime) -> Checked {
-    let mut head = get(rt.alloc(), b"*")?;
-    assert_eq!(rt; head.send_end_stream(), None);
+fn sets_method(alloc: Global) -> Result<bool> {
+    let mut head = get(alloc, b"*")?;
+    let unset = head.send_end_stream().is_none();
     head.set_method(Method::POST);
     head.set_version(Version::HTTP_2);
     head.set_send_end_stream(false);
-    assert_eq!(rt; head.send_end_stream(), Some(false));
-    assert!(rt; head.method().as_str() == "POST");
-    Ok(())
+    Ok(unset && head.send_end_stream() == Some(false) && head.method().as_str() == "POST")
+}
+
+fn sets_uri(alloc: Global) -> Result<bool> {
+    let Ok(uri) = Uri::from_static("http://origin.example?only=query") else {
+        return Ok(false);
+    };
+    let mut head = get(alloc, b"*")?;
+    let set = head.set_uri(uri);
+    Ok(set.is_ok() && head.raw_path() == b"/?only=query".as_slice())
+}
+
+fn sets_target(alloc: Global) -> Result<bool> {
+    let mut head = get(alloc, b"*")?;
+    let set = head.set_raw_path(b"/next");
+    Ok(set.is_ok() && head.uri().is_none())
 }
 
 #[test]
-fn sets_a_uri_and_a_target(rt: HostRuntime) -> Checked {
-    let uri = Uri::from_static("http://origin.example?only=query").expect(&rt, "a URI");
-    let mut head = get(rt.alloc(), b"*")?;
-    head.set_uri(uri)?;
-    assert!(rt; head.raw_path() == b"/?only=query".as_slice());
-    head.set_raw_path(b"/next")?;
-    assert!(rt; head.uri().is_none());
-    Ok(())
+fn edits_the_line_of_a_request(rt: HostRuntime) {
+    assert!(rt; matches!(copies_request(rt.alloc()), Ok(true)));
+    assert!(rt; matches!(sets_method(rt.alloc()), Ok(true)));
+    assert!(rt; matches!(sets_uri(rt.alloc()), Ok(true)));
+    assert!(rt; matches!(sets_target(rt.alloc()), Ok(true)));
+}
+
+fn edits_request_fields(alloc: Global) -> Result<bool> {
+    let mut head = get(alloc, b"/")?;
+    let put = head.insert_header(HOST, HeaderValue::from_static("one"));
+    let added = head.append_header(VIA, HeaderValue::from_static("two"));
+    let both = put.is_ok() && added.is_ok() && head.headers().len() == 2;
+    let removed = head.remove_header(&VIA);
+    Ok(both && removed.is_some())
+}
+
+fn edits_response_fields(alloc: Global) -> Result<bool> {
+    let mut head = ResponseHeader::build(alloc, 200)?;
+    let put = head.insert_header(VIA, HeaderValue::from_static("one"));
+    let added = head.append_header(VIA, HeaderValue::from_static("two"));
+    let both = put.is_ok() && added.is_ok() && head.headers().len() == 2;
+    let removed = head.remove_header(&VIA);
+    Ok(both && removed.is_some())
 }
 
 #[test]
-fn edits_fields_of_a_request(rt: HostRuntime) -> Checked {
-    let mut head = get(rt.alloc(), b"/")?;
-    head.insert_header(HOST, HeaderValue::from_static("one"))?;
-    head.append_header(VIA, HeaderValue::from_static("two"))?;
-    assert_eq!(rt; head.headers().len(), 2);
-    assert!(rt; head.remove_header(&VIA).is_some());
-    Ok(())
+fn edits_fields(rt: HostRuntime) {
+    assert!(rt; matches!(edits_request_fields(rt.alloc()), Ok(true)));
+    assert!(rt; matches!(edits_response_fields(rt.alloc()), Ok(true)));
+}
+
+/// What a copy of a shared head says.
+fn says_get(shared: SharedRequest, target: &[u8]) -> Result<bool> {
+    let copy = shared.copy()?;
+    let line = copy.method().as_str() == "GET" && copy.version() == Version::HTTP_11;
+    Ok(line && copy.uri().is_none() && copy.headers().is_empty() && copy.raw_path() == target)
+}
+
+fn shares_request(alloc: Global) -> Result<bool> {
+    let mut head = get(alloc, b"/first")?;
+    let first = head.share();
+    let set = head.set_raw_path(b"/second");
+    Ok(set.is_ok() && says_get(first?, b"/first")? && says_get(head.share()?, b"/second")?)
+}
+
+/// What a copy of a shared response says.
+fn says_ok(shared: SharedResponse, fields: usize) -> Result<bool> {
+    let copy = shared.copy()?;
+    let line = copy.status() == 200 && copy.version() == Version::HTTP_11;
+    Ok(line && copy.headers().len() == fields)
+}
+
+fn shares_response(alloc: Global) -> Result<bool> {
+    let mut head = ResponseHeader::build(alloc, 200)?;
+    let first = head.share(alloc);
+    let put = head.insert_header(VIA, HeaderValue::from_static("one"));
+    Ok(put.is_ok() && says_ok(first?, 0)? && says_ok(head.share(alloc)?, 1)?)
 }
 
 #[test]
-fn edits_fields_of_a_response(rt: HostRuntime) -> Checked {
-    let mut head = ResponseHeader::build(rt.alloc(), 200)?;
-    head.insert_header(VIA, HeaderValue::from_static("one"))?;
-    head.append_header(VIA, HeaderValue::from_static("two"))?;
-    assert_eq!(rt; head.headers().len(), 2);
-    assert!(rt; head.remove_header(&VIA).is_some());
-    Ok(())
+fn shares_a_head_until_it_is_changed(rt: HostRuntime) {
+    assert!(rt; matches!(shares_request(rt.alloc()), Ok(true)));
+    assert!(rt; matches!(shares_response(rt.alloc()), Ok(true)));
 }
 
-#[test]
-fn shares_a_head_until_it_is_changed(rt: HostRuntime) -> Checked {
-    let mut head = get(rt.alloc(), b"/first")?;
-    let first = head.share()?;
-    let copy = first.copy()?;
-    head.set_raw_path(b"/second")?;
-    let second = head.share()?;
-    assert!(rt; first.raw_path() == b"/first".as_slice());
-    assert!(rt; copy.raw_path() == b"/first".as_slice());
-    assert!(rt; second.raw_path() == b"/second".as_slice());
-    assert!(rt; second.method().as_str() == "GET" && second.uri().is_none());
-    assert!(rt; second.version() == Version::HTTP_11 && second.headers().is_empty());
-    Ok(())
-}
-
-#[test]
-fn shares_a_response_until_it_is_changed(rt: HostRuntime) -> Checked {
-    let mut head = ResponseHeader::build(rt.alloc(), 200)?;
-    let first = head.share(rt.alloc())?;
-    head.insert_header(VIA, HeaderValue::from_static("one"))?;
-    let second = head.share(rt.alloc())?.copy()?;
-    assert_eq!(rt; first.headers().len(), 0);
-    assert_eq!(rt; second.headers().len(), 1);
-    assert!(rt; second.status() == 200 && second.version() == Version::HTTP_11);
-    Ok(())
-}
-
-#[test]
-fn sets_a_status(rt: HostRuntime) -> Checked {
-    let mut head = ResponseHeader::build(rt.alloc(), 100)?;
-    assert!(rt; head.is_informational());
-    assert!(rt; head.set_status(101).is_ok());
-    assert!(rt; !head.copy()?.is_informational());
+fn sets_status(alloc: Global) -> Result<bool> {
+    let mut head = ResponseHeader::build(alloc, 100)?;
+    let was_informational = head.is_informational();
+    let set = head.set_status(101);
     head.set_version(Version::HTTP_10);
-    assert!(rt; head.version() == Version::HTTP_10);
-    assert_eq!(rt; head.status(), 101);
-    Ok(())
+    let line = head.version() == Version::HTTP_10 && head.status() == 101;
+    Ok(was_informational && set.is_ok() && line && !head.copy()?.is_informational())
+}
+
+#[test]
+fn sets_a_status(rt: HostRuntime) {
+    assert!(rt; matches!(sets_status(rt.alloc()), Ok(true)));
+}
+
+fn is_named(task: HttpTask, name: &str, is_end: bool) -> bool {
+    task.type_str() == name && task.is_end() == is_end
 }
 
 #[test]
 fn names_tasks(rt: HostRuntime) {
     let piece = HttpTask::Body(Some(Bytes::from_static(b"piece")), false);
-    assert!(rt; piece.type_str() == "Body");
-    assert!(rt; !piece.is_end());
-    let trailer = HttpTask::Trailer(None);
-    assert!(rt; trailer.type_str() == "Trailer");
-    assert!(rt; trailer.is_end());
+    assert!(rt; is_named(piece, "Body", false));
+    assert!(rt; is_named(HttpTask::Trailer(None), "Trailer", true));
 }
 
-#[test]
-fn moves_tasks_in_order(rt: HostRuntime) -> Checked {
-    let mut tasks = TaskList::new(rt.alloc());
-    tasks.push(HttpTask::Trailer(None))?;
+fn moves_tasks(alloc: Global) -> Result<bool> {
+    let mut tasks = TaskList::new(alloc);
     tasks.push(HttpTask::Done)?;
     let copy = tasks.copy()?;
-    assert!(rt; tasks.take_first().is_some());
-    assert_eq!(rt; tasks.len(), 1);
-    assert!(rt; !copy.is_empty());
-    assert!(rt; copy.get(1).is_some());
-    Ok(())
+    let taken = tasks.take_first().is_some();
+    Ok(taken && tasks.is_empty() && copy.len() == 1 && copy.get(0).is_some())
+}
+
+fn copies_messages(alloc: Global) -> Result<bool> {
+    let mut injected = Injected::new(alloc);
+    injected.to_upstream.push(Bytes::from_static(b"hello"))?;
+    let mut copy = injected.copy()?;
+    let taken = copy.to_upstream.take_first().is_some();
+    Ok(taken && copy.to_downstream.is_empty() && injected.to_upstream.get(0).is_some())
 }
 
 #[test]
-fn copies_injected_messages(rt: HostRuntime) -> Checked {
-    let mut injected = Injected::new(rt.alloc());
-    injected.to_upstream.push(Bytes::from_static(b"hello"))?;
-    let mut copy = injected.copy()?;
-    assert!(rt; copy.to_upstream.take_first().is_some());
-    assert!(rt; copy.to_downstream.is_empty());
-    assert!(rt; injected.to_upstream.get(0).is_some());
-    Ok(())
+fn moves_tasks_and_messages(rt: HostRuntime) {
+    assert!(rt; matches!(moves_tasks(rt.alloc()), Ok(true)));
+    assert!(rt; matches!(copies_messages(rt.alloc()), Ok(true)));
 }
 
 fn entry(alloc: Global, input: Item) -> LogEntry {
@@ -160,30 +174,40 @@ fn entry(alloc: Global, input: Item) -> LogEntry {
     }
 }
 
-#[test]
-fn keeps_a_log(rt: HostRuntime) -> Checked {
+fn copied_peer() -> Result<Peer> {
     let peer = Peer {
         address: Bytes::from_static(b"127.0.0.1:80"),
         tls: false,
         allows_h1: true,
     };
-    let mut log = PhaseLog::new(rt.alloc());
-    log.push(entry(rt.alloc(), Item::Addressed(peer.copy()?, true)))?;
-    assert_eq!(rt; log.len(), 1);
-    assert!(rt; log.get(0).is_some());
-    Ok(())
+    peer.copy()
+}
+
+fn logs(alloc: Global) -> Result<bool> {
+    let input = Item::Addressed(copied_peer()?, true);
+    let mut log = PhaseLog::new(alloc);
+    let pushed = log.push(entry(alloc, input));
+    Ok(pushed.is_ok() && log.len() == 1 && log.get(0).is_some())
 }
 
 #[test]
-fn tells_what_an_error_was(rt: HostRuntime) {
+fn keeps_a_log(rt: HostRuntime) {
+    assert!(rt; matches!(logs(rt.alloc()), Ok(true)));
+}
+
+fn write_failed() -> Error {
     let cause = Error::of_fault(Fault {
         kind: FaultKind::Write,
         retry: RetryType::ReusedOnly,
     });
-    let mut error = Error::because(ErrorType::ConnectionClosed, Context::UpstreamClosed, cause);
-    assert_eq!(rt; error.root_etype(), ErrorType::WriteError);
-    assert!(rt; !error.retry());
+    Error::because(ErrorType::ConnectionClosed, Context::UpstreamClosed, cause)
+}
+
+#[test]
+fn tells_what_an_error_was(rt: HostRuntime) {
+    let mut error = write_failed();
+    let cause = error.root_etype() == ErrorType::WriteError && !error.retry();
     error.retry.decide_reuse(true);
-    assert!(rt; error.retry());
+    assert!(rt; cause && error.retry());
     assert!(rt; error.context.text() == "upstream closed inside its response");
 }

@@ -14,6 +14,8 @@ use std::test::Fail;
 use std::time::Duration;
 use std::{io, thread};
 
+type Checked = Result<(), Fail>;
+
 // How often a call is made again, a millisecond later each time.
 const ROUNDS: usize = 1000;
 
@@ -35,6 +37,10 @@ fn peer_at(address: &'static [u8], tls: bool) -> Peer {
     }
 }
 
+fn pause(rt: &HostRuntime) {
+    thread::sleep(rt, Duration::from_millis(20));
+}
+
 /// A poll, and what it has told.
 #[derive(Drop)]
 struct Waiting {
@@ -54,15 +60,19 @@ impl Waiting {
         })
     }
 
-    /// Waits so long at most, and tells what happened.
-    fn wait(&mut self, millis: u64) -> io::Result<()> {
+    /// Waits so long at most, and tells what happened; whether it could wait.
+    fn wait(&mut self, millis: u64) -> bool {
         let longest = Duration::from_millis(millis);
-        self.poll.poll(&mut self.events, Some(longest))?;
+        let waited = self.poll.poll(&mut self.events, Some(longest)).is_ok();
         for event in self.events.iter() {
             self.readiness.tell(event);
         }
-        Ok(())
+        waited
     }
+}
+
+fn listen(rt: &HostRuntime) -> io::Result<TcpListener> {
+    TcpListener::bind(rt, SocketAddr::from((Ipv4Addr::LOCALHOST, 0)))
 }
 
 /// A connector to that address, whose connections are waited for there.
@@ -75,19 +85,23 @@ fn connector(
     Ok(connector.ok().ok_or("memory")?)
 }
 
-/// A watched link to that listener, and its far end, which is not watched.
-fn pair(
-    rt: &HostRuntime,
-    listener: &TcpListener,
-    waiting: &Waiting,
-) -> Result<(TcpLink, TcpLink), Fail> {
-    let mut connector = connector(rt, listener.local_addr()?, waiting)?;
-    let (near, _) = connector.get(&peer()).ok().ok_or("refused")?;
-    Ok((near, accept(rt, listener)?))
+/// A connector to a listener, and the poll that waits for its links, not for their far ends.
+#[derive(Drop)]
+struct Bench {
+    waiting: Waiting,
+    listener: TcpListener,
+    connector: TcpConnector<HostRuntime>,
 }
 
-fn listen(rt: &HostRuntime) -> Result<TcpListener, Fail> {
-    Ok(TcpListener::bind(rt, SocketAddr::from((Ipv4Addr::LOCALHOST, 0)))?)
+fn set_up(rt: &HostRuntime) -> Result<Bench, Fail> {
+    let waiting = Waiting::new(rt)?;
+    let listener = listen(rt)?;
+    let connector = connector(rt, listener.local_addr()?, &waiting)?;
+    Ok(Bench {
+        waiting,
+        listener,
+        connector,
+    })
 }
 
 /// The next connection, as a link that is marked as reused.
@@ -99,44 +113,6 @@ fn accept(rt: &HostRuntime, listener: &TcpListener) -> Result<TcpLink, Fail> {
         thread::sleep(rt, Duration::from_millis(1));
     }
     Err(Fail::from("nobody came"))
-}
-
-/// The first answer other than `NotReady` in so many reads, and the room. After each read that was
-/// not ready a millisecond is waited.
-fn read_four(
-    waiting: &mut Waiting,
-    link: &mut TcpLink,
-    rounds: usize,
-) -> io::Result<(Got, [u8; 4])> {
-    let mut room = [0; 4];
-    for _ in 0..rounds {
-        match link.read(&mut room) {
-            Got::NotReady => waiting.wait(1)?,
-            got => return Ok((got, room)),
-        }
-    }
-    Ok((Got::NotReady, room))
-}
-
-#[test]
-fn what_one_end_writes_the_other_reads_and_a_release_ends_it(rt: HostRuntime) -> Result<(), Fail> {
-    let mut waiting = Waiting::new(&rt)?;
-    let listener = listen(&rt)?;
-    let mut connector = connector(&rt, listener.local_addr()?, &waiting)?;
-    let (mut near, reused) = connector.get(&peer()).ok().ok_or("refused")?;
-    let mut far = accept(&rt, &listener)?;
-    assert_eq!(rt; read_four(&mut waiting, &mut near, 1)?.0, Got::NotReady);
-    assert_eq!(rt; near.write(b"ping"), Put::Took(4));
-    let ping = read_four(&mut waiting, &mut far, ROUNDS)?;
-    assert_eq!(rt; ping, (Got::Bytes(4), *b"ping"));
-    assert_eq!(rt; far.write(b"pong"), Put::Took(4));
-    let pong = read_four(&mut waiting, &mut near, ROUNDS)?;
-    assert_eq!(rt; pong, (Got::Bytes(4), *b"pong"));
-    connector.release(peer(), near, false);
-    assert_eq!(rt; read_four(&mut waiting, &mut far, ROUNDS)?.0, Got::End);
-    assert_eq!(rt; read_four(&mut waiting, &mut far, 1)?.0, Got::End);
-    assert_eq!(rt; (reused, far.faults(), connector.faults()), (false, 0, 0));
-    Ok(())
 }
 
 /// A new link of that connector, and its far end.
@@ -166,100 +142,162 @@ fn reconnect(connector: &mut TcpConnector<HostRuntime>) -> Result<TcpLink, Fail>
     }
 }
 
-/// Whether the next link to that peer was used before. It goes back, and is not kept.
-fn reuses(connector: &mut TcpConnector<HostRuntime>, peer: Peer) -> Result<bool, Fail> {
-    match connector.get(&peer) {
+/// Opens a link and hands it back, to be kept or not; its far end.
+fn release_new(rt: &HostRuntime, bench: &mut Bench, keep: bool) -> Result<TcpLink, Fail> {
+    let (near, far) = connect(rt, &bench.listener, &mut bench.connector)?;
+    bench.connector.release(peer(), near, keep);
+    Ok(far)
+}
+
+/// Whether the next link to that peer was used before; none where it is refused. It goes back, and
+/// is not kept.
+fn reuses(bench: &mut Bench, peer: Peer) -> Option<bool> {
+    match bench.connector.get(&peer) {
         Ok((near, reused)) => {
-            connector.release(peer, near, false);
-            Ok(reused)
+            bench.connector.release(peer, near, false);
+            Some(reused)
         }
-        Err(_) => Err(Fail::from("refused")),
+        Err(_) => None,
     }
 }
 
+/// The first answer other than `NotReady` in so many reads, and the room. After each read that was
+/// not ready a millisecond is waited.
+fn read_four(waiting: &mut Waiting, link: &mut TcpLink, rounds: usize) -> (Got, [u8; 4]) {
+    let mut room = [0; 4];
+    for _ in 0..rounds {
+        let got = link.read(&mut room);
+        if got != Got::NotReady || !waiting.wait(1) {
+            return (got, room);
+        }
+    }
+    (Got::NotReady, room)
+}
+
 /// Whether what one link writes the other one reads.
-fn reaches(waiting: &mut Waiting, from: &mut TcpLink, to: &mut TcpLink) -> io::Result<bool> {
+fn reaches(waiting: &mut Waiting, from: &mut TcpLink, to: &mut TcpLink) -> bool {
     let took = from.write(b"ping");
-    let got = read_four(waiting, to, ROUNDS)?;
-    Ok(took == Put::Took(4) && got == (Got::Bytes(4), *b"ping"))
+    let got = read_four(waiting, to, ROUNDS);
+    took == Put::Took(4) && got == (Got::Bytes(4), *b"ping")
+}
+
+/// Whether the link ends, and stays so.
+fn ends(waiting: &mut Waiting, link: &mut TcpLink) -> bool {
+    let first = read_four(waiting, link, ROUNDS).0;
+    let second = link.read(&mut [0; 4]);
+    first == Got::End && second == Got::End && link.faults() == 0
+}
+
+fn talks(rt: &HostRuntime) -> Result<bool, Fail> {
+    let mut bench = set_up(rt)?;
+    let (mut near, mut far) = connect(rt, &bench.listener, &mut bench.connector)?;
+    let silent = read_four(&mut bench.waiting, &mut near, 1).0 == Got::NotReady;
+    let there = reaches(&mut bench.waiting, &mut near, &mut far);
+    let back = reaches(&mut bench.waiting, &mut far, &mut near);
+    bench.connector.release(peer(), near, false);
+    Ok(silent && there && back && ends(&mut bench.waiting, &mut far))
 }
 
 #[test]
-fn a_kept_link_is_handed_out_again(rt: HostRuntime) -> Result<(), Fail> {
-    let mut waiting = Waiting::new(&rt)?;
-    let listener = listen(&rt)?;
-    let mut connector = connector(&rt, listener.local_addr()?, &waiting)?;
-    let (mut first, mut far) = connect(&rt, &listener, &mut connector)?;
-    assert!(rt; reaches(&mut waiting, &mut first, &mut far)?);
-    connector.release(peer(), first, true);
-    let mut second = reconnect(&mut connector)?;
-    assert_eq!(rt; (second.used(), second.faults()), (0, 0));
-    assert!(rt; reaches(&mut waiting, &mut second, &mut far)?);
-    assert!(rt; reaches(&mut waiting, &mut far, &mut second)?);
-    connector.release(peer(), second, true);
-    let mut third = reconnect(&mut connector)?;
-    assert!(rt; reaches(&mut waiting, &mut far, &mut third)?);
-    assert!(rt; listener.accept().is_err());
+fn what_one_end_writes_the_other_reads_and_a_release_ends_it(rt: HostRuntime) -> Checked {
+    assert!(rt; talks(&rt)?);
     Ok(())
 }
 
-#[test]
-fn a_link_to_another_peer_is_not_handed_out(rt: HostRuntime) -> Result<(), Fail> {
-    let waiting = Waiting::new(&rt)?;
-    let listener = listen(&rt)?;
-    let mut connector = connector(&rt, listener.local_addr()?, &waiting)?;
-    let (near, _far) = connect(&rt, &listener, &mut connector)?;
-    connector.release(peer(), near, true);
-    assert!(rt; !reuses(&mut connector, peer_at(b"other", false))?);
-    assert!(rt; !reuses(&mut connector, peer_at(b"an", false))?);
-    assert!(rt; !reuses(&mut connector, peer_at(b"any", true))?);
-    assert!(rt; reuses(&mut connector, peer())?);
-    Ok(())
+/// Whether the kept link is handed out unused and reaches its far end. It goes back, to be kept.
+fn reaches_again(bench: &mut Bench, far: &mut TcpLink) -> Result<bool, Fail> {
+    let mut near = reconnect(&mut bench.connector)?;
+    let unused = near.used() == 0 && near.faults() == 0;
+    let there = reaches(&mut bench.waiting, &mut near, far);
+    let back = reaches(&mut bench.waiting, far, &mut near);
+    bench.connector.release(peer(), near, true);
+    Ok(unused && there && back)
+}
+
+fn hands_out_again(rt: &HostRuntime) -> Result<bool, Fail> {
+    let mut bench = set_up(rt)?;
+    let mut far = release_new(rt, &mut bench, true)?;
+    let first = reaches_again(&mut bench, &mut far)?;
+    let second = reaches_again(&mut bench, &mut far)?;
+    Ok(first && second && bench.listener.accept().is_err())
 }
 
 #[test]
-fn a_link_that_is_not_to_be_kept_is_not_handed_out(rt: HostRuntime) -> Result<(), Fail> {
-    let mut waiting = Waiting::new(&rt)?;
-    let listener = listen(&rt)?;
-    let mut connector = connector(&rt, listener.local_addr()?, &waiting)?;
-    let (near, mut far) = connect(&rt, &listener, &mut connector)?;
-    connector.release(peer(), near, false);
-    assert_eq!(rt; read_four(&mut waiting, &mut far, ROUNDS)?.0, Got::End);
-    assert!(rt; !reuses(&mut connector, peer())?);
+fn a_kept_link_is_handed_out_again(rt: HostRuntime) -> Checked {
+    assert!(rt; hands_out_again(&rt)?);
     Ok(())
 }
 
+fn tells_peers_apart(rt: &HostRuntime) -> Result<bool, Fail> {
+    let mut bench = set_up(rt)?;
+    let _far = release_new(rt, &mut bench, true)?;
+    let other = reuses(&mut bench, peer_at(b"other", false));
+    let front = reuses(&mut bench, peer_at(b"an", false));
+    let secret = reuses(&mut bench, peer_at(b"any", true));
+    let same = reuses(&mut bench, peer());
+    let no = Some(false);
+    Ok(other == no && front == no && secret == no && same == Some(true))
+}
+
 #[test]
-fn a_link_that_the_peer_closed_is_not_handed_out(rt: HostRuntime) -> Result<(), Fail> {
-    let mut waiting = Waiting::new(&rt)?;
-    let listener = listen(&rt)?;
-    let mut connector = connector(&rt, listener.local_addr()?, &waiting)?;
-    let (older, mut standing) = connect(&rt, &listener, &mut connector)?;
-    let (near, far) = connect(&rt, &listener, &mut connector)?;
-    connector.release(peer(), older, true);
-    connector.release(peer(), near, true);
-    drop(far);
-    thread::sleep(&rt, Duration::from_millis(20));
+fn a_link_to_another_peer_is_not_handed_out(rt: HostRuntime) -> Checked {
+    assert!(rt; tells_peers_apart(&rt)?);
+    Ok(())
+}
+
+fn closes_what_is_not_kept(rt: &HostRuntime) -> Result<bool, Fail> {
+    let mut bench = set_up(rt)?;
+    let mut far = release_new(rt, &mut bench, false)?;
+    let end = ends(&mut bench.waiting, &mut far);
+    Ok(end && reuses(&mut bench, peer()) == Some(false))
+}
+
+#[test]
+fn a_link_that_is_not_to_be_kept_is_not_handed_out(rt: HostRuntime) -> Checked {
+    assert!(rt; closes_what_is_not_kept(&rt)?);
+    Ok(())
+}
+
+/// Opens two links and keeps them in that order; their far ends.
+fn keep_two(rt: &HostRuntime, bench: &mut Bench) -> Result<(TcpLink, TcpLink), Fail> {
+    let (older, first) = connect(rt, &bench.listener, &mut bench.connector)?;
+    let (newer, second) = connect(rt, &bench.listener, &mut bench.connector)?;
+    bench.connector.release(peer(), older, true);
+    bench.connector.release(peer(), newer, true);
+    Ok((first, second))
+}
+
+fn hands_out_what_stands(rt: &HostRuntime) -> Result<bool, Fail> {
+    let mut bench = set_up(rt)?;
+    let (mut standing, closed) = keep_two(rt, &mut bench)?;
+    drop(closed);
+    pause(rt);
     // The one that was kept before it stands.
-    let mut next = reconnect(&mut connector)?;
-    assert!(rt; reaches(&mut waiting, &mut next, &mut standing)?);
-    assert!(rt; !reuses(&mut connector, peer())?);
-    Ok(())
+    let mut next = reconnect(&mut bench.connector)?;
+    let stands = reaches(&mut bench.waiting, &mut next, &mut standing);
+    Ok(stands && reuses(&mut bench, peer()) == Some(false))
 }
 
 #[test]
-fn a_link_on_which_bytes_came_is_not_handed_out(rt: HostRuntime) -> Result<(), Fail> {
-    let mut waiting = Waiting::new(&rt)?;
-    let listener = listen(&rt)?;
-    let mut connector = connector(&rt, listener.local_addr()?, &waiting)?;
-    let (near, mut far) = connect(&rt, &listener, &mut connector)?;
-    connector.release(peer(), near, true);
-    assert_eq!(rt; far.write(b"more"), Put::Took(4));
-    thread::sleep(&rt, Duration::from_millis(20));
-    assert!(rt; !reuses(&mut connector, peer())?);
+fn a_link_that_the_peer_closed_is_not_handed_out(rt: HostRuntime) -> Checked {
+    assert!(rt; hands_out_what_stands(&rt)?);
+    Ok(())
+}
+
+fn closes_where_bytes_came(rt: &HostRuntime) -> Result<bool, Fail> {
+    let mut bench = set_up(rt)?;
+    let mut far = release_new(rt, &mut bench, true)?;
+    let took = far.write(b"more") == Put::Took(4);
+    pause(rt);
+    let fresh = reuses(&mut bench, peer()) == Some(false);
     // It was closed, with its bytes unread.
-    let got = read_four(&mut waiting, &mut far, ROUNDS)?.0;
-    assert!(rt; got == Got::End || got == Got::Failed(UNREAD));
+    let got = read_four(&mut bench.waiting, &mut far, ROUNDS).0;
+    Ok(took && fresh && (got == Got::End || got == Got::Failed(UNREAD)))
+}
+
+#[test]
+fn a_link_on_which_bytes_came_is_not_handed_out(rt: HostRuntime) -> Checked {
+    assert!(rt; closes_where_bytes_came(&rt)?);
     Ok(())
 }
 
@@ -311,117 +349,39 @@ fn hands_out_all(
 ) -> Result<bool, Fail> {
     for mut other in far {
         let mut link = reconnect(connector)?;
-        if !reaches(waiting, &mut link, &mut other)? {
+        if !reaches(waiting, &mut link, &mut other) {
             return Ok(false);
         }
     }
     Ok(true)
 }
 
-#[test]
-fn of_too_many_kept_links_the_oldest_is_closed(rt: HostRuntime) -> Result<(), Fail> {
-    let mut waiting = Waiting::new(&rt)?;
-    let listener = listen(&rt)?;
-    let connector = connector(&rt, listener.local_addr()?, &waiting)?;
+/// Whether the far end of the oldest link ends where one link more is kept than may be.
+fn ends_with_one_more(waiting: &mut Waiting, holding: &mut Holding, mut oldest: TcpLink) -> bool {
+    holding.release(MOST_IDLE);
+    let stands = read_four(waiting, &mut oldest, 10).0 == Got::NotReady;
+    holding.release(1);
+    stands && ends(waiting, &mut oldest)
+}
+
+fn closes_the_oldest(rt: &HostRuntime) -> Result<bool, Fail> {
+    let Bench {
+        mut waiting,
+        listener,
+        connector,
+    } = set_up(rt)?;
     let near = Vec::new(rt.alloc());
     let mut holding = Holding { connector, near };
-    let far = holding.connect_all(&rt, &listener, MOST_IDLE)?;
-    let mut oldest = holding.connect(&rt, &listener)?;
-    holding.release(MOST_IDLE);
-    assert_eq!(rt; read_four(&mut waiting, &mut oldest, 10)?.0, Got::NotReady);
-    holding.release(1);
-    assert_eq!(rt; read_four(&mut waiting, &mut oldest, ROUNDS)?.0, Got::End);
+    let far = holding.connect_all(rt, &listener, MOST_IDLE)?;
+    let oldest = holding.connect(rt, &listener)?;
+    let closed = ends_with_one_more(&mut waiting, &mut holding, oldest);
     // The others are handed out from the last one on.
-    let Holding { mut connector, .. } = holding;
-    assert!(rt; hands_out_all(&mut waiting, &mut connector, far)?);
-    assert!(rt; !reuses(&mut connector, peer())?);
-    Ok(())
+    Ok(closed && hands_out_all(&mut waiting, &mut holding.connector, far)?)
 }
 
 #[test]
-fn a_kept_link_is_told_of(rt: HostRuntime) -> Result<(), Fail> {
-    let mut waiting = Waiting::new(&rt)?;
-    let listener = listen(&rt)?;
-    let mut connector = connector(&rt, listener.local_addr()?, &waiting)?;
-    let (near, mut far) = connect(&rt, &listener, &mut connector)?;
-    connector.release(peer(), near, true);
-    let mut near = reconnect(&mut connector)?;
-    // It is still waited for, and does not ask before it is told.
-    assert!(rt; is_told_apart(&rt, &mut near, &mut far));
-    waiting.wait(1000)?;
-    assert_eq!(rt; near.read(&mut [0; 4]), Got::Bytes(4));
-    Ok(())
-}
-
-#[test]
-fn a_link_asks_its_socket_once_a_poll_has_told(rt: HostRuntime) -> Result<(), Fail> {
-    let mut waiting = Waiting::new(&rt)?;
-    let listener = listen(&rt)?;
-    let (mut near, mut far) = pair(&rt, &listener, &waiting)?;
-    let mut room = [0; 16];
-    for part in [b"one", b"two"] {
-        assert_eq!(rt; far.write(part), Put::Took(3));
-        thread::sleep(&rt, Duration::from_millis(20));
-        // The bytes are there, and nothing was told yet.
-        assert_eq!(rt; near.read(&mut room), Got::NotReady);
-        waiting.wait(1000)?;
-        assert_eq!(rt; near.read(&mut room), Got::Bytes(3));
-        assert_eq!(rt; room[..3], part[..]);
-    }
-    assert_eq!(rt; (near.used(), near.faults()), (4, 0));
-    Ok(())
-}
-
-#[test]
-fn an_end_that_came_with_the_last_bytes_is_read(rt: HostRuntime) -> Result<(), Fail> {
-    let mut waiting = Waiting::new(&rt)?;
-    let listener = listen(&rt)?;
-    let (mut near, mut far) = pair(&rt, &listener, &waiting)?;
-    assert_eq!(rt; far.write(b"bye"), Put::Took(3));
-    drop(far);
-    thread::sleep(&rt, Duration::from_millis(20));
-    waiting.wait(1000)?;
-    let mut room = [0; 16];
-    assert_eq!(rt; near.read(&mut room), Got::Bytes(3));
-    assert_eq!(rt; near.read(&mut room), Got::End);
-    Ok(())
-}
-
-/// Reads until nothing is there.
-fn drain(link: &mut TcpLink, room: &mut [u8; 4096]) {
-    for _ in 0..ROUNDS * ROUNDS {
-        if link.read(room) == Got::NotReady {
-            return;
-        }
-    }
-}
-
-#[test]
-fn a_write_goes_on_once_a_poll_has_told_of_room(rt: HostRuntime) -> Result<(), Fail> {
-    let mut waiting = Waiting::new(&rt)?;
-    let listener = listen(&rt)?;
-    let (mut near, mut far) = pair(&rt, &listener, &waiting)?;
-    let mut room = [7; 4096];
-    let mut put = near.write(&room);
-    for _ in 0..ROUNDS * ROUNDS {
-        if put == Put::NotReady {
-            break;
-        }
-        put = near.write(&room);
-    }
-    assert_eq!(rt; put, Put::NotReady);
-    drain(&mut far, &mut room);
-    // There is room again, and nothing was told yet.
-    assert_eq!(rt; near.write(&room), Put::NotReady);
-    for _ in 0..ROUNDS {
-        waiting.wait(1)?;
-        put = near.write(&room);
-        if put != Put::NotReady {
-            break;
-        }
-        drain(&mut far, &mut room);
-    }
-    assert_eq!(rt; put, Put::Took(4096));
+fn of_too_many_kept_links_the_oldest_is_closed(rt: HostRuntime) -> Checked {
+    assert!(rt; closes_the_oldest(&rt)?);
     Ok(())
 }
 
@@ -429,49 +389,180 @@ fn a_write_goes_on_once_a_poll_has_told_of_room(rt: HostRuntime) -> Result<(), F
 fn is_told_apart(rt: &HostRuntime, near: &mut TcpLink, far: &mut TcpLink) -> bool {
     let took = far.write(b"pong");
     thread::sleep(rt, Duration::from_millis(1));
-    took == Put::Took(4) && near.read(&mut [0; 4]) == Got::NotReady
+    let got = near.read(&mut [0; 4]);
+    took == Put::Took(4) && got == Got::NotReady
+}
+
+/// Whether a link reads what has come once a poll has told of it.
+fn reads_once_told(waiting: &mut Waiting, near: &mut TcpLink) -> bool {
+    let waited = waiting.wait(1000);
+    let got = near.read(&mut [0; 16]);
+    waited && got == Got::Bytes(4)
+}
+
+fn is_told_where_kept(rt: &HostRuntime) -> Result<bool, Fail> {
+    let mut bench = set_up(rt)?;
+    let mut far = release_new(rt, &mut bench, true)?;
+    let mut near = reconnect(&mut bench.connector)?;
+    // It is still waited for, and does not ask before it is told.
+    let apart = is_told_apart(rt, &mut near, &mut far);
+    Ok(apart && reads_once_told(&mut bench.waiting, &mut near))
 }
 
 #[test]
-fn a_link_gives_its_slot_back(rt: HostRuntime) -> Result<(), Fail> {
-    let waiting = Waiting::new(&rt)?;
-    let listener = listen(&rt)?;
-    for _ in 0..SLOTS + 2 {
-        let (mut near, mut far) = pair(&rt, &listener, &waiting)?;
-        assert!(rt; is_told_apart(&rt, &mut near, &mut far));
-    }
+fn a_kept_link_is_told_of(rt: HostRuntime) -> Checked {
+    assert!(rt; is_told_where_kept(&rt)?);
     Ok(())
 }
 
+fn is_told_twice(rt: &HostRuntime) -> Result<bool, Fail> {
+    let mut bench = set_up(rt)?;
+    let (mut near, mut far) = connect(rt, &bench.listener, &mut bench.connector)?;
+    let first = is_told_apart(rt, &mut near, &mut far);
+    let one = reads_once_told(&mut bench.waiting, &mut near);
+    let second = is_told_apart(rt, &mut near, &mut far);
+    let two = reads_once_told(&mut bench.waiting, &mut near);
+    Ok(first && one && second && two && near.used() == 4 && near.faults() == 0)
+}
+
 #[test]
-fn a_link_without_a_slot_asks_at_each_call(rt: HostRuntime) -> Result<(), Fail> {
-    let mut waiting = Waiting::new(&rt)?;
-    let listener = listen(&rt)?;
+fn a_link_asks_its_socket_once_a_poll_has_told(rt: HostRuntime) -> Checked {
+    assert!(rt; is_told_twice(&rt)?);
+    Ok(())
+}
+
+fn ends_behind_bytes(rt: &HostRuntime) -> Result<bool, Fail> {
+    let mut bench = set_up(rt)?;
+    let (mut near, mut far) = connect(rt, &bench.listener, &mut bench.connector)?;
+    let took = far.write(b"last") == Put::Took(4);
+    drop(far);
+    pause(rt);
+    let bytes = reads_once_told(&mut bench.waiting, &mut near);
+    Ok(took && bytes && near.read(&mut [0; 4]) == Got::End)
+}
+
+#[test]
+fn an_end_that_came_with_the_last_bytes_is_read(rt: HostRuntime) -> Checked {
+    assert!(rt; ends_behind_bytes(&rt)?);
+    Ok(())
+}
+
+/// Reads until nothing is there.
+fn drain(link: &mut TcpLink) {
+    let mut room = [0; 4096];
+    for _ in 0..ROUNDS * ROUNDS {
+        if link.read(&mut room) == Got::NotReady {
+            return;
+        }
+    }
+}
+
+/// Writes until nothing is taken, and then once more; whether it came so far.
+fn fills(link: &mut TcpLink) -> bool {
+    for _ in 0..ROUNDS * ROUNDS {
+        if link.write(&[7; 4096]) == Put::NotReady {
+            return true;
+        }
+    }
+    false
+}
+
+/// The first answer other than `NotReady` of a write, a millisecond after each that was not.
+fn write_later(waiting: &mut Waiting, near: &mut TcpLink, far: &mut TcpLink) -> Put {
+    for _ in 0..ROUNDS {
+        waiting.wait(1);
+        let put = near.write(&[7; 4096]);
+        if put != Put::NotReady {
+            return put;
+        }
+        drain(far);
+    }
+    Put::NotReady
+}
+
+fn writes_on_once_told(rt: &HostRuntime) -> Result<bool, Fail> {
+    let mut bench = set_up(rt)?;
+    let (mut near, mut far) = connect(rt, &bench.listener, &mut bench.connector)?;
+    let full = fills(&mut near);
+    drain(&mut far);
+    // There is room again, and nothing was told yet.
+    let untold = near.write(&[7; 4096]) == Put::NotReady;
+    let put = write_later(&mut bench.waiting, &mut near, &mut far);
+    Ok(full && untold && put == Put::Took(4096))
+}
+
+#[test]
+fn a_write_goes_on_once_a_poll_has_told_of_room(rt: HostRuntime) -> Checked {
+    assert!(rt; writes_on_once_told(&rt)?);
+    Ok(())
+}
+
+/// Whether a new link has a slot.
+fn has_slot(rt: &HostRuntime, bench: &mut Bench) -> Result<bool, Fail> {
+    let (mut near, mut far) = connect(rt, &bench.listener, &mut bench.connector)?;
+    Ok(is_told_apart(rt, &mut near, &mut far))
+}
+
+fn gives_slots_back(rt: &HostRuntime) -> Result<bool, Fail> {
+    let mut bench = set_up(rt)?;
+    for _ in 0..SLOTS + 2 {
+        if !has_slot(rt, &mut bench)? {
+            return Ok(false);
+        }
+    }
+    Ok(true)
+}
+
+#[test]
+fn a_link_gives_its_slot_back(rt: HostRuntime) -> Checked {
+    assert!(rt; gives_slots_back(&rt)?);
+    Ok(())
+}
+
+/// Links that have all slots.
+fn seat_all(rt: &HostRuntime, bench: &mut Bench) -> Result<Vec<TcpLink>, Fail> {
     let mut seated = Vec::new(rt.alloc());
     for _ in 0..SLOTS {
-        let (near, _) = pair(&rt, &listener, &waiting)?;
+        let (near, _) = connect(rt, &bench.listener, &mut bench.connector)?;
         seated.push(near)?;
     }
-    let (mut near, mut far) = pair(&rt, &listener, &waiting)?;
-    assert!(rt; !is_told_apart(&rt, &mut near, &mut far));
+    Ok(seated)
+}
+
+fn asks_without_slot(rt: &HostRuntime) -> Result<bool, Fail> {
+    let mut bench = set_up(rt)?;
+    let _seated = seat_all(rt, &mut bench)?;
+    let (mut near, mut far) = connect(rt, &bench.listener, &mut bench.connector)?;
+    let apart = is_told_apart(rt, &mut near, &mut far);
     // A wait ends at once for it, as for any other.
-    assert_eq!(rt; far.write(b"pong"), Put::Took(4));
-    waiting.wait(1000)?;
-    assert_eq!(rt; near.read(&mut [0; 4]), Got::Bytes(4));
-    Ok(())
+    let took = far.write(b"pong") == Put::Took(4);
+    Ok(!apart && took && reads_once_told(&mut bench.waiting, &mut near))
 }
 
 #[test]
-fn a_poll_waits_for_a_link(rt: HostRuntime) -> Result<(), Fail> {
-    let listener = listen(&rt)?;
-    let mut link = TcpLink::new(TcpStream::connect(&rt, listener.local_addr()?)?, false);
-    let mut poll = Poll::new(&rt)?;
+fn a_link_without_a_slot_asks_at_each_call(rt: HostRuntime) -> Checked {
+    assert!(rt; asks_without_slot(&rt)?);
+    Ok(())
+}
+
+/// Whether a poll finds that the link can be written to.
+fn is_waited_for(rt: &HostRuntime, link: &mut TcpLink) -> io::Result<bool> {
     let mut events = Events::with_capacity(rt.alloc(), 4)?;
+    let mut poll = Poll::new(rt)?;
     poll.registry()
         .register(link.stream(), Token(7), Interest::WRITABLE)?;
     poll.poll(&mut events, Some(Duration::from_secs(1)))?;
-    assert!(rt; events.iter().any(|event| event.is_writable()));
-    assert_eq!(rt; link.used(), 0);
+    match events.iter().next() {
+        Some(event) => Ok(event.is_writable()),
+        None => Ok(false),
+    }
+}
+
+#[test]
+fn a_poll_waits_for_a_link(rt: HostRuntime) -> Checked {
+    let listener = listen(&rt)?;
+    let mut link = TcpLink::new(TcpStream::connect(&rt, listener.local_addr()?)?, false);
+    assert!(rt; is_waited_for(&rt, &mut link)?);
     Ok(())
 }
 
@@ -490,34 +581,40 @@ const UNCONNECTED: Fault = Fault {
     retry: RetryType::Decided(false),
 };
 
-#[test]
-fn where_nothing_listens_each_call_is_a_fault(rt: HostRuntime) -> Result<(), Fail> {
-    let listener = listen(&rt)?;
-    let address = listener.local_addr()?;
-    drop(listener);
-    let mut waiting = Waiting::new(&rt)?;
-    let mut connector = connector(&rt, address, &waiting)?;
+/// Whether the link's first read and its first write are faults.
+fn is_broken(waiting: &mut Waiting, mut link: TcpLink) -> bool {
+    let got = read_four(waiting, &mut link, ROUNDS).0;
+    let put = link.write(b"ping");
+    got == Got::Failed(UNREAD) && put == Put::Failed(UNWRITTEN) && link.faults() == 2
+}
+
+fn fails_where_nothing_listens(rt: &HostRuntime) -> Result<bool, Fail> {
+    let address = listen(rt)?.local_addr()?;
+    let mut waiting = Waiting::new(rt)?;
+    let mut connector = connector(rt, address, &waiting)?;
     match connector.get(&peer()) {
-        Ok((mut link, _)) => {
-            let (got, _) = read_four(&mut waiting, &mut link, ROUNDS)?;
-            assert_eq!(rt; got, Got::Failed(UNREAD));
-            assert_eq!(rt; link.write(b"ping"), Put::Failed(UNWRITTEN));
-            assert_eq!(rt; link.faults(), 2);
-            assert_eq!(rt; connector.faults(), 0);
-        }
-        Err(fault) => {
-            assert_eq!(rt; fault, UNCONNECTED);
-            assert_eq!(rt; connector.faults(), 1);
-        }
+        Ok((link, _)) => Ok(is_broken(&mut waiting, link)),
+        Err(fault) => Ok(fault == UNCONNECTED && connector.faults() == 1),
     }
-    Ok(())
 }
 
 #[test]
-fn an_address_of_no_host_is_refused_at_once(rt: HostRuntime) -> Result<(), Fail> {
+fn where_nothing_listens_each_call_is_a_fault(rt: HostRuntime) -> Checked {
+    assert!(rt; fails_where_nothing_listens(&rt)?);
+    Ok(())
+}
+
+fn refuses_everyone(rt: &HostRuntime) -> Result<bool, Fail> {
     let everyone = SocketAddr::from((Ipv4Addr::BROADCAST, 9));
-    let mut connector = connector(&rt, everyone, &Waiting::new(&rt)?)?;
-    assert_eq!(rt; connector.get(&peer()).err(), Some(UNCONNECTED));
-    assert_eq!(rt; connector.faults(), 1);
+    let mut connector = connector(rt, everyone, &Waiting::new(rt)?)?;
+    match connector.get(&peer()) {
+        Ok(_) => Ok(false),
+        Err(fault) => Ok(fault == UNCONNECTED && connector.faults() == 1),
+    }
+}
+
+#[test]
+fn an_address_of_no_host_is_refused_at_once(rt: HostRuntime) -> Checked {
+    assert!(rt; refuses_everyone(&rt)?);
     Ok(())
 }

@@ -1,61 +1,46 @@
 //! Targets of the greatest length, and of one byte more.
 
-use super::{Checked, refused};
+use super::{Checked, refused, with_field};
 use http::Method;
 use http_header::{HOST, HeaderValue};
 use relay_authority::*;
-use relay_tasks::{Context, MAX_TARGET, RequestHeader, Result};
+use relay_tasks::{Context, RequestHeader, Result};
 use std::alloc::Global;
 
-// A target of that length that begins so.
-fn long_target(alloc: Global, front: &str, length: usize) -> Result<Vec<u8>> {
+// A head whose target begins so and has that length.
+fn long_head(alloc: Global, front: &str, length: usize) -> Result<RequestHeader> {
     let mut target = Vec::from_slice(alloc, front.as_bytes())?;
-    for _ in 0..length {
-        if target.len() < length {
-            target.extend_from_slice(b"a")?;
-        }
-    }
-    Ok(target)
+    target.resize(length, b'a')?;
+    RequestHeader::build(alloc, &Method::GET, target.as_slice())
 }
 
-fn long_head(alloc: Global, front: &str, length: usize) -> Result<RequestHeader> {
-    let target = long_target(alloc, front, length)?;
-    RequestHeader::build(alloc, &Method::GET, target.as_slice())
+fn path_length(alloc: Global, front: &str) -> Result<usize> {
+    let head = long_head(alloc, front, 65_534)?;
+    match h2_path_and_query(alloc, &head) {
+        Ok(path) => Ok(path.as_str().len()),
+        Err(fail) => Err(fail),
+    }
 }
 
 #[test]
 fn takes_a_target_of_65534_bytes(rt: HostRuntime) -> Checked {
-    for front in ["/", "http://h?", "http://h/", "http:", "http://"] {
-        let head = long_head(rt.alloc(), front, MAX_TARGET)?;
-        assert!(rt; head.raw_path().len() == 65534, "{front}");
-        let longer = long_head(rt.alloc(), front, MAX_TARGET + 1);
-        assert_eq!(rt; longer.err(), refused(Context::HeadGrammar), "{front}");
-    }
+    assert!(rt; path_length(rt.alloc(), "/")? == 65_534);
+    assert!(rt; path_length(rt.alloc(), "http://h?")? == 65_527);
+    let longer = long_head(rt.alloc(), "/", 65_535).err();
+    assert!(rt; longer == refused(Context::HeadGrammar));
     Ok(())
 }
 
-#[test]
-fn gives_the_path_of_a_target_of_65534_bytes(rt: HostRuntime) -> Checked {
-    for (front, length) in [("/", 65534), ("http://h?", 65527), ("http://h/", 65526)] {
-        let head = long_head(rt.alloc(), front, MAX_TARGET)?;
-        let path = h2_path_and_query(rt.alloc(), &head)?;
-        assert_eq!(rt; path.as_str().len(), length, "{front}");
-    }
-    Ok(())
+// Whether a target one byte below the greatest length, with another Host, becomes so long.
+fn moves(alloc: Global, host: HeaderValue, length: usize) -> Result<bool> {
+    let mut head = with_field(long_head(alloc, "http://h/", 65_533)?, HOST, host);
+    let moved = reconcile_upstream_authority(alloc, &mut head);
+    Ok(moved.is_ok() && head.raw_path().len() == length)
 }
 
 #[test]
 fn moves_a_target_up_to_65534_bytes(rt: HostRuntime) -> Checked {
-    let mut head = long_head(rt.alloc(), "http://h/", MAX_TARGET - 1)?;
-    head.insert_header(HOST, HeaderValue::from_static("h2"))?;
-    reconcile_upstream_authority(rt.alloc(), &mut head)?;
-    assert!(rt; head.raw_path().len() == 65534);
-    assert!(rt; head.raw_path().starts_with(b"http://h2/a"));
-    head.insert_header(HOST, HeaderValue::from_static("h22"))?;
-    assert_eq!(rt;
-        reconcile_upstream_authority(rt.alloc(), &mut head).err(),
-        refused(Context::HeadGrammar)
-    );
-    assert!(rt; head.raw_path().starts_with(b"http://h2/a"));
+    assert!(rt; moves(rt.alloc(), HeaderValue::from_static("h2"), 65_534)?);
+    assert!(rt; !moves(rt.alloc(), HeaderValue::from_static("h22"), 65_535)?);
     Ok(())
 }

@@ -304,7 +304,7 @@ pub struct Blame {
     pub side: ErrorSource,
 }
 
-fn inside(why: Context) -> Blame {
+pub fn inside(why: Context) -> Blame {
     Blame {
         why,
         side: ErrorSource::Internal,

@@ -1,7 +1,7 @@
 //! What an attempt sends of a head, over each upstream.
 
 use super::enumeration::head_with;
-use super::{Checked, head_at, head_of, host_is};
+use super::{Checked, head_at, head_of, host_is, is_named};
 use http::Version;
 use relay_authority::*;
 use relay_tasks::{Context, Error, ErrorSource, ErrorType, Fail, RequestHeader, Result};
@@ -41,122 +41,107 @@ fn sent(
     sent_head(alloc, &head, ready, upstream, client)
 }
 
-fn goes_to(head: &RequestHeader, scheme: &str, authority: &str, path: &[u8]) -> bool {
-    match head.uri() {
-        Some(uri) => {
-            uri.scheme_str() == Some(scheme)
-                && uri.authority().is_some_and(|a| a.as_str() == authority)
-                && head.raw_path() == path
-                && !head.headers().contains_key("host")
-                && head.version() == Version::HTTP_2
-        }
-        None => false,
+// Where a head goes over HTTP/2.
+#[derive(Clone, Copy)]
+struct Way {
+    scheme: &'static str,
+    authority: &'static str,
+    path: &'static str,
+}
+
+fn goes(head: &RequestHeader, way: Way) -> bool {
+    let Some(uri) = head.uri() else {
+        return false;
+    };
+    uri.scheme_str() == Some(way.scheme)
+        && is_named(head, way.authority.as_bytes())
+        && head.raw_path() == way.path.as_bytes()
+        && !head.headers().contains_key("host")
+        && head.version() == Version::HTTP_2
+}
+
+fn is_sent(alloc: Global, head: RequestHeader, tls: bool, client: Client, way: Way) -> bool {
+    match sent(alloc, head, Upstream::H2 { tls }, client) {
+        Ok(sent) => goes(&sent, way),
+        Err(_) => false,
     }
 }
 
+const HOSTED: Way = Way {
+    scheme: "https",
+    authority: "h.example",
+    path: "/c",
+};
+
+const TARGETED: Way = Way {
+    scheme: "http",
+    authority: "t.example",
+    path: "/?q",
+};
+
+const KEPT: Way = Way {
+    scheme: "https",
+    authority: "u.example",
+    path: "/a",
+};
+
 #[test]
-fn sends_host_as_authority_over_http2(rt: HostRuntime) -> Checked {
+fn sends_an_authority_over_http2(rt: HostRuntime) -> Checked {
     let head = hosted(rt.alloc(), b"/c", "h.example")?;
-    let plain = sent(rt.alloc(), head.copy()?, PLAIN_H2, BROWSER)?;
-    assert!(rt; goes_to(&plain, "http", "h.example", b"/c"));
-    let secret = sent(rt.alloc(), head, Upstream::H2 { tls: true }, GATEWAY)?;
-    assert!(rt; goes_to(&secret, "https", "h.example", b"/c"));
-    Ok(())
-}
-
-#[test]
-fn sends_the_authority_of_a_target_over_http2(rt: HostRuntime) -> Checked {
+    assert!(rt; is_sent(rt.alloc(), head, true, GATEWAY, HOSTED));
     let head = head_of(rt.alloc(), b"https://t.example?q")?;
-    let plain = sent(rt.alloc(), head.copy()?, PLAIN_H2, BROWSER)?;
-    assert!(rt; goes_to(&plain, "http", "t.example", b"/?q"));
-    assert_eq!(rt;
-        sent(rt.alloc(), head, PLAIN_H2, GATEWAY).err(),
-        blamed(Context::NoAuthorityH2, ErrorSource::Internal)
-    );
+    assert!(rt; is_sent(rt.alloc(), head, false, BROWSER, TARGETED));
+    let head = head_at(rt.alloc(), "https://u.example/a")?;
+    assert!(rt; is_sent(rt.alloc(), head, false, GATEWAY, KEPT));
     Ok(())
 }
 
-#[test]
-fn keeps_the_uri_of_a_head_without_host_over_http2(rt: HostRuntime) -> Checked {
-    let head = head_at(rt.alloc(), "https://u.example/a")?;
-    let plain = sent(rt.alloc(), head, PLAIN_H2, GATEWAY)?;
-    assert!(rt; goes_to(&plain, "https", "u.example", b"/a"));
-    Ok(())
+// Why a head is not sent over HTTP/2.
+fn refusal(alloc: Global, target: &[u8], host: &str, client: Client) -> Result<Option<Fail>> {
+    Ok(sent(alloc, hosted(alloc, target, host)?, PLAIN_H2, client).err())
 }
 
 #[test]
 fn blames_each_refusal_over_http2(rt: HostRuntime) -> Checked {
-    let table = [
-        (
-            b"/\xff".as_slice(),
-            "h.example",
-            Context::NonUtf8H2,
-            ErrorSource::Downstream,
-        ),
-        (
-            b"/<".as_slice(),
-            "h.example",
-            Context::PathInvalid,
-            ErrorSource::Internal,
-        ),
-        (
-            b"http:/a".as_slice(),
-            "h.example",
-            Context::Ambiguous,
-            ErrorSource::Internal,
-        ),
-        (
-            b"/".as_slice(),
-            "u@h.example",
-            Context::UserinfoHost,
-            ErrorSource::Unset,
-        ),
-        (
-            b"/".as_slice(),
-            "h.example:1:2",
-            Context::HostInvalid,
-            ErrorSource::Unset,
-        ),
-    ];
-    for (target, host, why, side) in table {
-        let head = hosted(rt.alloc(), target, host)?;
-        assert_eq!(rt;
-            sent(rt.alloc(), head, PLAIN_H2, GATEWAY).err(),
-            blamed(why, side),
-            "{host}"
-        );
-    }
+    let fail = refusal(rt.alloc(), b"/\xff", "h.example", GATEWAY)?;
+    assert!(rt; fail == blamed(Context::NonUtf8H2, ErrorSource::Downstream));
+    let fail = refusal(rt.alloc(), b"/<", "h.example", GATEWAY)?;
+    assert!(rt; fail == blamed(Context::PathInvalid, ErrorSource::Internal));
+    let fail = refusal(rt.alloc(), b"/", "u@h.example", GATEWAY)?;
+    assert!(rt; fail == blamed(Context::UserinfoHost, ErrorSource::Unset));
+    let fail = refusal(rt.alloc(), b"/", "u@h.example", BROWSER)?;
+    assert!(rt; fail == blamed(Context::UserinfoHost, ErrorSource::Internal));
     Ok(())
 }
 
-#[test]
-fn holds_a_standard_client_to_its_host_over_http2(rt: HostRuntime) -> Checked {
-    let head = hosted(rt.alloc(), b"/", "u@h.example")?;
-    assert_eq!(rt;
-        sent(rt.alloc(), head, PLAIN_H2, BROWSER).err(),
-        blamed(Context::UserinfoHost, ErrorSource::Internal)
-    );
-    Ok(())
-}
-
-#[test]
-fn frames_a_body_over_http1(rt: HostRuntime) -> Checked {
-    let head = hosted(rt.alloc(), b"/c", "h.example")?;
+fn frames_over_h1(alloc: Global) -> Result<bool> {
     let client = Client {
         custom: false,
         has_body: true,
     };
-    let framed = sent(rt.alloc(), head, Upstream::H1, client)?;
-    assert!(rt; framed.headers().contains_key("transfer-encoding"));
-    assert!(rt; framed.headers().contains_key("host"));
+    let framed = sent(
+        alloc,
+        hosted(alloc, b"/c", "h.example")?,
+        Upstream::H1,
+        client,
+    )?;
+    Ok(framed.headers().contains_key("transfer-encoding") && framed.headers().contains_key("host"))
+}
+
+#[test]
+fn frames_a_body_over_http1(rt: HostRuntime) -> Checked {
+    assert!(rt; frames_over_h1(rt.alloc())?);
     Ok(())
+}
+
+fn leaves_over_custom(alloc: Global) -> Result<bool> {
+    let head = hosted(alloc, b"http:/a", "u@h.example")?;
+    let same = sent(alloc, head, Upstream::Custom, BROWSER)?;
+    Ok(host_is(&same, b"u@h.example") && same.raw_path() == b"http:/a".as_slice())
 }
 
 #[test]
 fn leaves_a_head_for_a_custom_link(rt: HostRuntime) -> Checked {
-    let head = hosted(rt.alloc(), b"http:/a", "u@h.example")?;
-    let same = sent(rt.alloc(), head, Upstream::Custom, BROWSER)?;
-    assert!(rt; host_is(&same, "u@h.example"));
-    assert!(rt; same.raw_path() == b"http:/a".as_slice());
+    assert!(rt; leaves_over_custom(rt.alloc())?);
     Ok(())
 }
