@@ -73,9 +73,13 @@ fn is_checked(alloc: Global, hook: Hook, action: Action) -> std::result::Result<
 }
 
 #[test]
-fn takes_a_lawful_rule(rt: HostRuntime) -> Checked {
-    assert!(rt; is_checked(rt.alloc(), Hook::IsPurge, Action::Say(true))?);
-    Ok(())
+fn takes_a_lawful_rule(rt: HostRuntime) {
+    assert!(rt;
+        matches!(
+            is_checked(rt.alloc(), Hook::IsPurge, Action::Say(true)),
+            Ok(true)
+        )
+    );
 }
 
 /// Runs that rule on the value.
@@ -97,9 +101,8 @@ fn changes_fields(alloc: Global) -> Result<bool> {
 }
 
 #[test]
-fn changes_a_request(rt: HostRuntime) -> Checked {
-    assert!(rt; changes_fields(rt.alloc())?);
-    Ok(())
+fn changes_a_request(rt: HostRuntime) {
+    assert!(rt; matches!(changes_fields(rt.alloc()), Ok(true)));
 }
 
 fn changes_status(alloc: Global) -> Result<bool> {
@@ -151,9 +154,8 @@ fn injects(alloc: Global) -> Result<bool> {
 }
 
 #[test]
-fn injects_messages(rt: HostRuntime) -> Checked {
-    assert!(rt; injects(rt.alloc())?);
-    Ok(())
+fn injects_messages(rt: HostRuntime) {
+    assert!(rt; matches!(injects(rt.alloc()), Ok(true)));
 }
 
 /// Tells the value by that rule.

@@ -1,4 +1,4 @@
-ghost use Rattle.std.specs.Prelude.{◌≡◌, ◌+◌, ◌≤◌, IfOk, vec_len};
+ghost use Rattle.std.specs.Prelude.{◌≡◌, ◌+◌, ◌≤◌, IfSome, vec_len};
 ghost use Rattle.relay_tcp.specs.TcpConnector.{links_out};
 
 use bytes::Bytes;
@@ -85,7 +85,8 @@ fn connector(
     Ok(connector.ok().ok_or("memory")?)
 }
 
-/// A connector to a listener, and the poll that waits for its links, not for their far ends.
+/// A listener, a connector to it or elsewhere, and the poll that waits for its links, but not for
+/// their far ends.
 #[derive(Drop)]
 struct Bench {
     waiting: Waiting,
@@ -93,10 +94,9 @@ struct Bench {
     connector: TcpConnector<HostRuntime>,
 }
 
-fn set_up(rt: &HostRuntime) -> Result<Bench, Fail> {
+fn set_up_to(rt: &HostRuntime, listener: TcpListener, address: SocketAddr) -> Result<Bench, Fail> {
     let waiting = Waiting::new(rt)?;
-    let listener = listen(rt)?;
-    let connector = connector(rt, listener.local_addr()?, &waiting)?;
+    let connector = connector(rt, address, &waiting)?;
     Ok(Bench {
         waiting,
         listener,
@@ -104,15 +104,21 @@ fn set_up(rt: &HostRuntime) -> Result<Bench, Fail> {
     })
 }
 
+fn set_up(rt: &HostRuntime) -> Result<Bench, Fail> {
+    let listener = listen(rt)?;
+    let address = listener.local_addr()?;
+    set_up_to(rt, listener, address)
+}
+
 /// The next connection, as a link that is marked as reused.
-fn accept(rt: &HostRuntime, listener: &TcpListener) -> Result<TcpLink, Fail> {
+fn accept(rt: &HostRuntime, listener: &TcpListener) -> Option<TcpLink> {
     for _ in 0..ROUNDS {
         if let Ok((stream, _)) = listener.accept() {
-            return Ok(TcpLink::new(stream, true));
+            return Some(TcpLink::new(stream, true));
         }
         thread::sleep(rt, Duration::from_millis(1));
     }
-    Err(Fail::from("nobody came"))
+    None
 }
 
 /// A new link of that connector, and its far end.
@@ -120,33 +126,31 @@ fn connect(
     rt: &HostRuntime,
     listener: &TcpListener,
     connector: &mut TcpConnector<HostRuntime>,
-) -> Result<(TcpLink, TcpLink), Fail>
-    ensures ok { IfOk result (λ _. links_out connector.new ≡ links_out connector.old + 1) }
+) -> Option<(TcpLink, TcpLink)>
+    ensures ok { IfSome result (λ _. links_out connector.new ≡ links_out connector.old + 1) }
     ensures grows { links_out connector.old ≤ links_out connector.new }
 {
     match connector.get(&peer()) {
-        Ok((near, false)) => Ok((near, accept(rt, listener)?)),
-        Ok((_, true)) => Err(Fail::from("reused")),
-        Err(_) => Err(Fail::from("refused")),
+        Ok((near, false)) => Some((near, accept(rt, listener)?)),
+        Ok((_, true)) | Err(_) => None,
     }
 }
 
 /// The next link, which was used before.
-fn reconnect(connector: &mut TcpConnector<HostRuntime>) -> Result<TcpLink, Fail>
-    ensures { IfOk result (λ _. links_out connector.new ≡ links_out connector.old + 1) }
+fn reconnect(connector: &mut TcpConnector<HostRuntime>) -> Option<TcpLink>
+    ensures { IfSome result (λ _. links_out connector.new ≡ links_out connector.old + 1) }
 {
     match connector.get(&peer()) {
-        Ok((near, true)) => Ok(near),
-        Ok((_, false)) => Err(Fail::from("new")),
-        Err(_) => Err(Fail::from("refused")),
+        Ok((near, true)) => Some(near),
+        Ok((_, false)) | Err(_) => None,
     }
 }
 
 /// Opens a link and hands it back, to be kept or not; its far end.
-fn release_new(rt: &HostRuntime, bench: &mut Bench, keep: bool) -> Result<TcpLink, Fail> {
+fn release_new(rt: &HostRuntime, bench: &mut Bench, keep: bool) -> Option<TcpLink> {
     let (near, far) = connect(rt, &bench.listener, &mut bench.connector)?;
     bench.connector.release(peer(), near, keep);
-    Ok(far)
+    Some(far)
 }
 
 /// Whether the next link to that peer was used before; none where it is refused. It goes back, and
@@ -188,116 +192,118 @@ fn ends(waiting: &mut Waiting, link: &mut TcpLink) -> bool {
     first == Got::End && second == Got::End && link.faults() == 0
 }
 
-fn talks(rt: &HostRuntime) -> Result<bool, Fail> {
-    let mut bench = set_up(rt)?;
+fn talks(rt: &HostRuntime, bench: &mut Bench) -> Option<bool> {
     let (mut near, mut far) = connect(rt, &bench.listener, &mut bench.connector)?;
     let silent = read_four(&mut bench.waiting, &mut near, 1).0 == Got::NotReady;
     let there = reaches(&mut bench.waiting, &mut near, &mut far);
     let back = reaches(&mut bench.waiting, &mut far, &mut near);
     bench.connector.release(peer(), near, false);
-    Ok(silent && there && back && ends(&mut bench.waiting, &mut far))
+    Some(silent && there && back && ends(&mut bench.waiting, &mut far))
 }
 
 #[test]
 fn what_one_end_writes_the_other_reads_and_a_release_ends_it(rt: HostRuntime) -> Checked {
-    assert!(rt; talks(&rt)?);
+    let mut bench = set_up(&rt)?;
+    assert!(rt; talks(&rt, &mut bench) == Some(true));
     Ok(())
 }
 
 /// Whether the kept link is handed out unused and reaches its far end. It goes back, to be kept.
-fn reaches_again(bench: &mut Bench, far: &mut TcpLink) -> Result<bool, Fail> {
-    let mut near = reconnect(&mut bench.connector)?;
+fn reaches_again(bench: &mut Bench, far: &mut TcpLink) -> bool {
+    let Some(mut near) = reconnect(&mut bench.connector) else {
+        return false;
+    };
     let unused = near.used() == 0 && near.faults() == 0;
     let there = reaches(&mut bench.waiting, &mut near, far);
     let back = reaches(&mut bench.waiting, far, &mut near);
     bench.connector.release(peer(), near, true);
-    Ok(unused && there && back)
+    unused && there && back
 }
 
-fn hands_out_again(rt: &HostRuntime) -> Result<bool, Fail> {
-    let mut bench = set_up(rt)?;
-    let mut far = release_new(rt, &mut bench, true)?;
-    let first = reaches_again(&mut bench, &mut far)?;
-    let second = reaches_again(&mut bench, &mut far)?;
-    Ok(first && second && bench.listener.accept().is_err())
+fn hands_out_again(rt: &HostRuntime, bench: &mut Bench) -> Option<bool> {
+    let mut far = release_new(rt, bench, true)?;
+    let first = reaches_again(bench, &mut far);
+    let second = reaches_again(bench, &mut far);
+    Some(first && second && bench.listener.accept().is_err())
 }
 
 #[test]
 fn a_kept_link_is_handed_out_again(rt: HostRuntime) -> Checked {
-    assert!(rt; hands_out_again(&rt)?);
+    let mut bench = set_up(&rt)?;
+    assert!(rt; hands_out_again(&rt, &mut bench) == Some(true));
     Ok(())
 }
 
-fn tells_peers_apart(rt: &HostRuntime) -> Result<bool, Fail> {
-    let mut bench = set_up(rt)?;
-    let _far = release_new(rt, &mut bench, true)?;
-    let other = reuses(&mut bench, peer_at(b"other", false));
-    let front = reuses(&mut bench, peer_at(b"an", false));
-    let secret = reuses(&mut bench, peer_at(b"any", true));
-    let same = reuses(&mut bench, peer());
+fn tells_peers_apart(rt: &HostRuntime, bench: &mut Bench) -> Option<bool> {
+    let _far = release_new(rt, bench, true)?;
+    let other = reuses(bench, peer_at(b"other", false));
+    let front = reuses(bench, peer_at(b"an", false));
+    let secret = reuses(bench, peer_at(b"any", true));
+    let same = reuses(bench, peer());
     let no = Some(false);
-    Ok(other == no && front == no && secret == no && same == Some(true))
+    Some(other == no && front == no && secret == no && same == Some(true))
 }
 
 #[test]
 fn a_link_to_another_peer_is_not_handed_out(rt: HostRuntime) -> Checked {
-    assert!(rt; tells_peers_apart(&rt)?);
+    let mut bench = set_up(&rt)?;
+    assert!(rt; tells_peers_apart(&rt, &mut bench) == Some(true));
     Ok(())
 }
 
-fn closes_what_is_not_kept(rt: &HostRuntime) -> Result<bool, Fail> {
-    let mut bench = set_up(rt)?;
-    let mut far = release_new(rt, &mut bench, false)?;
+fn closes_what_is_not_kept(rt: &HostRuntime, bench: &mut Bench) -> Option<bool> {
+    let mut far = release_new(rt, bench, false)?;
     let end = ends(&mut bench.waiting, &mut far);
-    Ok(end && reuses(&mut bench, peer()) == Some(false))
+    Some(end && reuses(bench, peer()) == Some(false))
 }
 
 #[test]
 fn a_link_that_is_not_to_be_kept_is_not_handed_out(rt: HostRuntime) -> Checked {
-    assert!(rt; closes_what_is_not_kept(&rt)?);
+    let mut bench = set_up(&rt)?;
+    assert!(rt; closes_what_is_not_kept(&rt, &mut bench) == Some(true));
     Ok(())
 }
 
 /// Opens two links and keeps them in that order; their far ends.
-fn keep_two(rt: &HostRuntime, bench: &mut Bench) -> Result<(TcpLink, TcpLink), Fail> {
+fn keep_two(rt: &HostRuntime, bench: &mut Bench) -> Option<(TcpLink, TcpLink)> {
     let (older, first) = connect(rt, &bench.listener, &mut bench.connector)?;
     let (newer, second) = connect(rt, &bench.listener, &mut bench.connector)?;
     bench.connector.release(peer(), older, true);
     bench.connector.release(peer(), newer, true);
-    Ok((first, second))
+    Some((first, second))
 }
 
-fn hands_out_what_stands(rt: &HostRuntime) -> Result<bool, Fail> {
-    let mut bench = set_up(rt)?;
-    let (mut standing, closed) = keep_two(rt, &mut bench)?;
+fn hands_out_what_stands(rt: &HostRuntime, bench: &mut Bench) -> Option<bool> {
+    let (mut standing, closed) = keep_two(rt, bench)?;
     drop(closed);
     pause(rt);
     // The one that was kept before it stands.
     let mut next = reconnect(&mut bench.connector)?;
     let stands = reaches(&mut bench.waiting, &mut next, &mut standing);
-    Ok(stands && reuses(&mut bench, peer()) == Some(false))
+    Some(stands && reuses(bench, peer()) == Some(false))
 }
 
 #[test]
 fn a_link_that_the_peer_closed_is_not_handed_out(rt: HostRuntime) -> Checked {
-    assert!(rt; hands_out_what_stands(&rt)?);
+    let mut bench = set_up(&rt)?;
+    assert!(rt; hands_out_what_stands(&rt, &mut bench) == Some(true));
     Ok(())
 }
 
-fn closes_where_bytes_came(rt: &HostRuntime) -> Result<bool, Fail> {
-    let mut bench = set_up(rt)?;
-    let mut far = release_new(rt, &mut bench, true)?;
+fn closes_where_bytes_came(rt: &HostRuntime, bench: &mut Bench) -> Option<bool> {
+    let mut far = release_new(rt, bench, true)?;
     let took = far.write(b"more") == Put::Took(4);
     pause(rt);
-    let fresh = reuses(&mut bench, peer()) == Some(false);
+    let fresh = reuses(bench, peer()) == Some(false);
     // It was closed, with its bytes unread.
     let got = read_four(&mut bench.waiting, &mut far, ROUNDS).0;
-    Ok(took && fresh && (got == Got::End || got == Got::Failed(UNREAD)))
+    Some(took && fresh && (got == Got::End || got == Got::Failed(UNREAD)))
 }
 
 #[test]
 fn a_link_on_which_bytes_came_is_not_handed_out(rt: HostRuntime) -> Checked {
-    assert!(rt; closes_where_bytes_came(&rt)?);
+    let mut bench = set_up(&rt)?;
+    assert!(rt; closes_where_bytes_came(&rt, &mut bench) == Some(true));
     Ok(())
 }
 
@@ -311,10 +317,10 @@ struct Holding {
 
 impl Holding {
     /// Takes one more link; its far end.
-    fn connect(&mut self, rt: &HostRuntime, listener: &TcpListener) -> Result<TcpLink, Fail> {
+    fn connect(&mut self, rt: &HostRuntime, listener: &TcpListener) -> Option<TcpLink> {
         let (near, far) = connect(rt, listener, &mut self.connector)?;
-        self.near.push(near)?;
-        Ok(far)
+        self.near.push(near).ok()?;
+        Some(far)
     }
 
     /// Takes so many links; their far ends.
@@ -323,12 +329,12 @@ impl Holding {
         rt: &HostRuntime,
         listener: &TcpListener,
         count: usize,
-    ) -> Result<Vec<TcpLink>, Fail> {
+    ) -> Option<Vec<TcpLink>> {
         let mut far = Vec::new(rt.alloc());
         for _ in 0..count {
-            far.push(self.connect(rt, listener)?)?;
+            far.push(self.connect(rt, listener)?).ok()?;
         }
-        Ok(far)
+        Some(far)
     }
 
     /// Hands back so many links, to be kept, the last one first.
@@ -341,19 +347,30 @@ impl Holding {
     }
 }
 
+/// Whether the next link that is handed out reaches that far end.
+fn hands_out(
+    waiting: &mut Waiting,
+    connector: &mut TcpConnector<HostRuntime>,
+    far: &mut TcpLink,
+) -> bool {
+    match reconnect(connector) {
+        Some(mut near) => reaches(waiting, &mut near, far),
+        None => false,
+    }
+}
+
 /// Whether the links that are handed out reach these far ends, in order.
 fn hands_out_all(
     waiting: &mut Waiting,
     connector: &mut TcpConnector<HostRuntime>,
     far: Vec<TcpLink>,
-) -> Result<bool, Fail> {
+) -> bool {
     for mut other in far {
-        let mut link = reconnect(connector)?;
-        if !reaches(waiting, &mut link, &mut other) {
-            return Ok(false);
+        if !hands_out(waiting, connector, &mut other) {
+            return false;
         }
     }
-    Ok(true)
+    true
 }
 
 /// Whether the far end of the oldest link ends where one link more is kept than may be.
@@ -364,24 +381,39 @@ fn ends_with_one_more(waiting: &mut Waiting, holding: &mut Holding, mut oldest: 
     stands && ends(waiting, &mut oldest)
 }
 
-fn closes_the_oldest(rt: &HostRuntime) -> Result<bool, Fail> {
+/// The far ends of the links that are kept, where the oldest one gave way.
+fn close_the_oldest(
+    rt: &HostRuntime,
+    waiting: &mut Waiting,
+    listener: &TcpListener,
+    holding: &mut Holding,
+) -> Option<Vec<TcpLink>> {
+    let far = holding.connect_all(rt, listener, MOST_IDLE)?;
+    let oldest = holding.connect(rt, listener)?;
+    if !ends_with_one_more(waiting, holding, oldest) {
+        return None;
+    }
+    Some(far)
+}
+
+fn keeps_the_others(rt: &HostRuntime, bench: Bench) -> Option<bool> {
     let Bench {
         mut waiting,
         listener,
         connector,
-    } = set_up(rt)?;
+    } = bench;
     let near = Vec::new(rt.alloc());
     let mut holding = Holding { connector, near };
-    let far = holding.connect_all(rt, &listener, MOST_IDLE)?;
-    let oldest = holding.connect(rt, &listener)?;
-    let closed = ends_with_one_more(&mut waiting, &mut holding, oldest);
+    let far = close_the_oldest(rt, &mut waiting, &listener, &mut holding)?;
     // The others are handed out from the last one on.
-    Ok(closed && hands_out_all(&mut waiting, &mut holding.connector, far)?)
+    let Holding { mut connector, .. } = holding;
+    Some(hands_out_all(&mut waiting, &mut connector, far))
 }
 
 #[test]
 fn of_too_many_kept_links_the_oldest_is_closed(rt: HostRuntime) -> Checked {
-    assert!(rt; closes_the_oldest(&rt)?);
+    let bench = set_up(&rt)?;
+    assert!(rt; keeps_the_others(&rt, bench) == Some(true));
     Ok(())
 }
 
@@ -400,50 +432,50 @@ fn reads_once_told(waiting: &mut Waiting, near: &mut TcpLink) -> bool {
     waited && got == Got::Bytes(4)
 }
 
-fn is_told_where_kept(rt: &HostRuntime) -> Result<bool, Fail> {
-    let mut bench = set_up(rt)?;
-    let mut far = release_new(rt, &mut bench, true)?;
+fn is_told_where_kept(rt: &HostRuntime, bench: &mut Bench) -> Option<bool> {
+    let mut far = release_new(rt, bench, true)?;
     let mut near = reconnect(&mut bench.connector)?;
     // It is still waited for, and does not ask before it is told.
     let apart = is_told_apart(rt, &mut near, &mut far);
-    Ok(apart && reads_once_told(&mut bench.waiting, &mut near))
+    Some(apart && reads_once_told(&mut bench.waiting, &mut near))
 }
 
 #[test]
 fn a_kept_link_is_told_of(rt: HostRuntime) -> Checked {
-    assert!(rt; is_told_where_kept(&rt)?);
+    let mut bench = set_up(&rt)?;
+    assert!(rt; is_told_where_kept(&rt, &mut bench) == Some(true));
     Ok(())
 }
 
-fn is_told_twice(rt: &HostRuntime) -> Result<bool, Fail> {
-    let mut bench = set_up(rt)?;
+fn is_told_twice(rt: &HostRuntime, bench: &mut Bench) -> Option<bool> {
     let (mut near, mut far) = connect(rt, &bench.listener, &mut bench.connector)?;
     let first = is_told_apart(rt, &mut near, &mut far);
     let one = reads_once_told(&mut bench.waiting, &mut near);
     let second = is_told_apart(rt, &mut near, &mut far);
     let two = reads_once_told(&mut bench.waiting, &mut near);
-    Ok(first && one && second && two && near.used() == 4 && near.faults() == 0)
+    Some(first && one && second && two && near.used() == 4 && near.faults() == 0)
 }
 
 #[test]
 fn a_link_asks_its_socket_once_a_poll_has_told(rt: HostRuntime) -> Checked {
-    assert!(rt; is_told_twice(&rt)?);
+    let mut bench = set_up(&rt)?;
+    assert!(rt; is_told_twice(&rt, &mut bench) == Some(true));
     Ok(())
 }
 
-fn ends_behind_bytes(rt: &HostRuntime) -> Result<bool, Fail> {
-    let mut bench = set_up(rt)?;
+fn ends_behind_bytes(rt: &HostRuntime, bench: &mut Bench) -> Option<bool> {
     let (mut near, mut far) = connect(rt, &bench.listener, &mut bench.connector)?;
     let took = far.write(b"last") == Put::Took(4);
     drop(far);
     pause(rt);
     let bytes = reads_once_told(&mut bench.waiting, &mut near);
-    Ok(took && bytes && near.read(&mut [0; 4]) == Got::End)
+    Some(took && bytes && near.read(&mut [0; 4]) == Got::End)
 }
 
 #[test]
 fn an_end_that_came_with_the_last_bytes_is_read(rt: HostRuntime) -> Checked {
-    assert!(rt; ends_behind_bytes(&rt)?);
+    let mut bench = set_up(&rt)?;
+    assert!(rt; ends_behind_bytes(&rt, &mut bench) == Some(true));
     Ok(())
 }
 
@@ -480,68 +512,68 @@ fn write_later(waiting: &mut Waiting, near: &mut TcpLink, far: &mut TcpLink) -> 
     Put::NotReady
 }
 
-fn writes_on_once_told(rt: &HostRuntime) -> Result<bool, Fail> {
-    let mut bench = set_up(rt)?;
+fn writes_on_once_told(rt: &HostRuntime, bench: &mut Bench) -> Option<bool> {
     let (mut near, mut far) = connect(rt, &bench.listener, &mut bench.connector)?;
     let full = fills(&mut near);
     drain(&mut far);
     // There is room again, and nothing was told yet.
     let untold = near.write(&[7; 4096]) == Put::NotReady;
     let put = write_later(&mut bench.waiting, &mut near, &mut far);
-    Ok(full && untold && put == Put::Took(4096))
+    Some(full && untold && put == Put::Took(4096))
 }
 
 #[test]
 fn a_write_goes_on_once_a_poll_has_told_of_room(rt: HostRuntime) -> Checked {
-    assert!(rt; writes_on_once_told(&rt)?);
+    let mut bench = set_up(&rt)?;
+    assert!(rt; writes_on_once_told(&rt, &mut bench) == Some(true));
     Ok(())
 }
 
 /// Whether a new link has a slot.
-fn has_slot(rt: &HostRuntime, bench: &mut Bench) -> Result<bool, Fail> {
+fn has_slot(rt: &HostRuntime, bench: &mut Bench) -> Option<bool> {
     let (mut near, mut far) = connect(rt, &bench.listener, &mut bench.connector)?;
-    Ok(is_told_apart(rt, &mut near, &mut far))
+    Some(is_told_apart(rt, &mut near, &mut far))
 }
 
-fn gives_slots_back(rt: &HostRuntime) -> Result<bool, Fail> {
-    let mut bench = set_up(rt)?;
+fn gives_slots_back(rt: &HostRuntime, bench: &mut Bench) -> Option<bool> {
     for _ in 0..SLOTS + 2 {
-        if !has_slot(rt, &mut bench)? {
-            return Ok(false);
+        if !has_slot(rt, bench)? {
+            return Some(false);
         }
     }
-    Ok(true)
+    Some(true)
 }
 
 #[test]
 fn a_link_gives_its_slot_back(rt: HostRuntime) -> Checked {
-    assert!(rt; gives_slots_back(&rt)?);
+    let mut bench = set_up(&rt)?;
+    assert!(rt; gives_slots_back(&rt, &mut bench) == Some(true));
     Ok(())
 }
 
 /// Links that have all slots.
-fn seat_all(rt: &HostRuntime, bench: &mut Bench) -> Result<Vec<TcpLink>, Fail> {
+fn seat_all(rt: &HostRuntime, bench: &mut Bench) -> Option<Vec<TcpLink>> {
     let mut seated = Vec::new(rt.alloc());
     for _ in 0..SLOTS {
         let (near, _) = connect(rt, &bench.listener, &mut bench.connector)?;
-        seated.push(near)?;
+        seated.push(near).ok()?;
     }
-    Ok(seated)
+    Some(seated)
 }
 
-fn asks_without_slot(rt: &HostRuntime) -> Result<bool, Fail> {
-    let mut bench = set_up(rt)?;
-    let _seated = seat_all(rt, &mut bench)?;
+fn asks_without_slot(rt: &HostRuntime, bench: &mut Bench) -> Option<bool> {
+    let _seated = seat_all(rt, bench)?;
     let (mut near, mut far) = connect(rt, &bench.listener, &mut bench.connector)?;
     let apart = is_told_apart(rt, &mut near, &mut far);
     // A wait ends at once for it, as for any other.
     let took = far.write(b"pong") == Put::Took(4);
-    Ok(!apart && took && reads_once_told(&mut bench.waiting, &mut near))
+    Some(!apart && took && reads_once_told(&mut bench.waiting, &mut near))
 }
 
 #[test]
 fn a_link_without_a_slot_asks_at_each_call(rt: HostRuntime) -> Checked {
-    assert!(rt; asks_without_slot(&rt)?);
+    let mut bench = set_up(&rt)?;
+    assert!(rt; asks_without_slot(&rt, &mut bench) == Some(true));
     Ok(())
 }
 
@@ -588,33 +620,33 @@ fn is_broken(waiting: &mut Waiting, mut link: TcpLink) -> bool {
     got == Got::Failed(UNREAD) && put == Put::Failed(UNWRITTEN) && link.faults() == 2
 }
 
-fn fails_where_nothing_listens(rt: &HostRuntime) -> Result<bool, Fail> {
-    let address = listen(rt)?.local_addr()?;
-    let mut waiting = Waiting::new(rt)?;
-    let mut connector = connector(rt, address, &waiting)?;
-    match connector.get(&peer()) {
-        Ok((link, _)) => Ok(is_broken(&mut waiting, link)),
-        Err(fault) => Ok(fault == UNCONNECTED && connector.faults() == 1),
+fn fails(bench: &mut Bench) -> bool {
+    match bench.connector.get(&peer()) {
+        Ok((link, _)) => is_broken(&mut bench.waiting, link),
+        Err(fault) => fault == UNCONNECTED,
     }
 }
 
 #[test]
 fn where_nothing_listens_each_call_is_a_fault(rt: HostRuntime) -> Checked {
-    assert!(rt; fails_where_nothing_listens(&rt)?);
+    let listener = listen(&rt)?;
+    let closed = listen(&rt)?.local_addr()?;
+    let mut bench = set_up_to(&rt, listener, closed)?;
+    assert!(rt; fails(&mut bench));
     Ok(())
 }
 
-fn refuses_everyone(rt: &HostRuntime) -> Result<bool, Fail> {
-    let everyone = SocketAddr::from((Ipv4Addr::BROADCAST, 9));
-    let mut connector = connector(rt, everyone, &Waiting::new(rt)?)?;
+fn refuses(connector: &mut TcpConnector<HostRuntime>) -> bool {
     match connector.get(&peer()) {
-        Ok(_) => Ok(false),
-        Err(fault) => Ok(fault == UNCONNECTED && connector.faults() == 1),
+        Ok(_) => false,
+        Err(fault) => fault == UNCONNECTED && connector.faults() == 1,
     }
 }
 
 #[test]
 fn an_address_of_no_host_is_refused_at_once(rt: HostRuntime) -> Checked {
-    assert!(rt; refuses_everyone(&rt)?);
+    let everyone = SocketAddr::from((Ipv4Addr::BROADCAST, 9));
+    let mut bench = set_up_to(&rt, listen(&rt)?, everyone)?;
+    assert!(rt; refuses(&mut bench.connector));
     Ok(())
 }
