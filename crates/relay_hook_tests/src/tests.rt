@@ -12,4 +12,5 @@ mod openings;
 mod orders;
 mod purgings;
 mod scripted;
+mod support;
 mod tryings;

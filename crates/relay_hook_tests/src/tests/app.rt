@@ -1,5 +1,6 @@
 //! An application that changes one thing.
 use crate::tests::calls::{self, Told};
+use crate::tests::support::expect;
 use http_header::{HeaderValue, VIA};
 use relay_hooks::{App, Filters, NoModules, Session};
 use relay_tasks::{ResponseHeader, Result};
@@ -31,6 +32,8 @@ fn changes_one_thing(rt: HostRuntime) {
         status: 204,
         via: true,
     };
-    assert!(rt; calls::response_filter(App::new(Tag), rt.alloc()) == Ok(tagged));
-    assert!(rt; calls::request_filter(App::new(Tag), rt.alloc()) == Ok((false, 0)));
+    let app = Ok(App::new(Tag));
+    expect(&rt, calls::response_filter(app, rt.alloc()), Ok(tagged));
+    let app = Ok(App::new(Tag));
+    expect(&rt, calls::request_filter(app, rt.alloc()), Ok((false, 0)));
 }

@@ -4,6 +4,7 @@
 ghost use Rattle.std.specs.Prelude.{IfOk, IsSome};
 ghost use Rattle.relay_hooks.specs.Session.{IsReady};
 
+use crate::tests::support::{peer, release};
 use bytes::Bytes;
 use http::Method;
 use http_header::{HeaderMap, VIA};
@@ -14,7 +15,7 @@ use relay_calls::{
 use relay_h1::Framing;
 use relay_hooks::{FailToProxy, ProxyHttp, ProxyWarnLogContext, PurgeStatus, Session};
 use relay_session::{HttpSession, generated_head};
-use relay_tasks::{Error, Fail, Peer, PurgeAction, RequestHeader, ResponseHeader, Result};
+use relay_tasks::{Error, Fail, PurgeAction, RequestHeader, ResponseHeader, Result};
 use std::alloc::Global;
 
 /// The session of a request with that method, of which modules were made.
@@ -28,17 +29,6 @@ fn session_of<A: ProxyHttp>(app: &A, alloc: Global, method: &Method) -> Result<S
     Ok(Session::new_h1_with_modules(alloc, client, modules))
 }
 
-/// Lets go of a value. To drop a session is dear to prove, so no other place does.
-fn release<T: Drop>(_value: T) {}
-
-pub(crate) fn peer() -> Peer {
-    Peer {
-        address: Bytes::from_static(b"h"),
-        tls: true,
-        allows_h1: true,
-    }
-}
-
 /// What an application says of a request and of an error that it is only shown.
 #[derive(Clone, Copy, Debug, PartialEq, Eq)]
 pub(crate) struct Answers {
@@ -50,12 +40,23 @@ pub(crate) struct Answers {
     pub(crate) action: PurgeAction,
 }
 
+/// What the application that decides nothing says.
+pub(crate) const NOTHING: Answers = Answers {
+    spawns: false,
+    keeps: false,
+    hides_error: false,
+    hides_warning: false,
+    purges: false,
+    action: PurgeAction::Delete,
+};
+
 /// The hooks that change nothing.
 pub(crate) fn answers_of<A: ProxyHttp + Drop>(
-    app: A,
+    app: Result<A>,
     alloc: Global,
     error: &Error,
 ) -> Result<Answers> {
+    let app = app?;
     let session = session_of(&app, alloc, &Method::GET)?;
     let ctx = app.new_ctx();
     let context = ProxyWarnLogContext::UpstreamRetry;
@@ -73,10 +74,11 @@ pub(crate) fn answers_of<A: ProxyHttp + Drop>(
 
 /// Whether the summary of a POST is that text.
 pub(crate) fn request_summary<A: ProxyHttp + Drop>(
-    app: A,
+    app: Result<A>,
     alloc: Global,
     want: &[u8],
 ) -> Result<bool> {
+    let app = app?;
     let session = session_of(&app, alloc, &Method::POST)?;
     let ctx = app.new_ctx();
     let answer = app.request_summary(alloc, &session, &ctx);
@@ -85,7 +87,11 @@ pub(crate) fn request_summary<A: ProxyHttp + Drop>(
     Ok(text.as_slice() == want)
 }
 
-pub(crate) fn early_request_filter<A: ProxyHttp + Drop>(app: A, alloc: Global) -> Result<()> {
+pub(crate) fn early_request_filter<A: ProxyHttp + Drop>(
+    app: Result<A>,
+    alloc: Global,
+) -> Result<()> {
+    let app = app?;
     let mut session = session_of(&app, alloc, &Method::GET)?;
     let mut ctx = app.new_ctx();
     let answer = app.early_request_filter(alloc, &mut session, &mut ctx);
@@ -94,7 +100,8 @@ pub(crate) fn early_request_filter<A: ProxyHttp + Drop>(app: A, alloc: Global) -
 }
 
 /// Whether the peer is the one with the address `h`.
-pub(crate) fn upstream_peer<A: ProxyHttp + Drop>(app: A, alloc: Global) -> Result<bool> {
+pub(crate) fn upstream_peer<A: ProxyHttp + Drop>(app: Result<A>, alloc: Global) -> Result<bool> {
+    let app = app?;
     let mut session = session_of(&app, alloc, &Method::GET)?;
     let mut ctx = app.new_ctx();
     let answer = app.upstream_peer(alloc, &mut session, &mut ctx);
@@ -103,7 +110,11 @@ pub(crate) fn upstream_peer<A: ProxyHttp + Drop>(app: A, alloc: Global) -> Resul
     Ok(peer.address.as_slice() == b"h".as_slice())
 }
 
-pub(crate) fn connected_to_upstream<A: ProxyHttp + Drop>(app: A, alloc: Global) -> Result<()> {
+pub(crate) fn connected_to_upstream<A: ProxyHttp + Drop>(
+    app: Result<A>,
+    alloc: Global,
+) -> Result<()> {
+    let app = app?;
     let mut session = session_of(&app, alloc, &Method::GET)?;
     let mut ctx = app.new_ctx();
     let answer = app.connected_to_upstream(alloc, &mut session, true, &peer(), &mut ctx);
@@ -112,7 +123,11 @@ pub(crate) fn connected_to_upstream<A: ProxyHttp + Drop>(app: A, alloc: Global) 
 }
 
 /// What it answers, and how many tasks it queued.
-pub(crate) fn request_filter<A: ProxyHttp + Drop>(app: A, alloc: Global) -> Result<(bool, usize)> {
+pub(crate) fn request_filter<A: ProxyHttp + Drop>(
+    app: Result<A>,
+    alloc: Global,
+) -> Result<(bool, usize)> {
+    let app = app?;
     let mut session = session_of(&app, alloc, &Method::GET)?;
     let answer = filter_request(&app, alloc, &mut session);
     release(session);
@@ -136,9 +151,10 @@ fn filter_request<A: ProxyHttp>(
 
 /// What it answers, and how many tasks it queued.
 pub(crate) fn proxy_upstream_filter<A: ProxyHttp + Drop>(
-    app: A,
+    app: Result<A>,
     alloc: Global,
 ) -> Result<(bool, usize)> {
+    let app = app?;
     let mut session = session_of(&app, alloc, &Method::GET)?;
     let answer = filter_upstream(&app, alloc, &mut session);
     release(session);
@@ -170,9 +186,10 @@ fn first_of(piece: Option<Bytes>) -> Option<u8> {
 
 /// The first byte of what is left of the piece `hi`.
 pub(crate) fn request_body_filter<A: ProxyHttp + Drop>(
-    app: A,
+    app: Result<A>,
     alloc: Global,
 ) -> Result<Option<u8>> {
+    let app = app?;
     let mut session = session_of(&app, alloc, &Method::GET)?;
     let mut ctx = app.new_ctx();
     let mut piece = Some(Bytes::from_static(b"hi"));
@@ -185,9 +202,10 @@ pub(crate) fn request_body_filter<A: ProxyHttp + Drop>(
 
 /// The delay, and the first byte of what is left of the piece `hi`.
 pub(crate) fn upstream_response_body_filter<A: ProxyHttp + Drop>(
-    app: A,
+    app: Result<A>,
     alloc: Global,
 ) -> Result<(Option<u64>, Option<u8>)> {
+    let app = app?;
     let mut session = session_of(&app, alloc, &Method::GET)?;
     let mut ctx = app.new_ctx();
     let mut piece = Some(Bytes::from_static(b"hi"));
@@ -199,9 +217,10 @@ pub(crate) fn upstream_response_body_filter<A: ProxyHttp + Drop>(
 
 /// The delay, and the first byte of what is left of the piece `hi`.
 pub(crate) fn response_body_filter<A: ProxyHttp + Drop>(
-    app: A,
+    app: Result<A>,
     alloc: Global,
 ) -> Result<(Option<u64>, Option<u8>)> {
+    let app = app?;
     let mut session = session_of(&app, alloc, &Method::GET)?;
     let mut ctx = app.new_ctx();
     let mut piece = Some(Bytes::from_static(b"hi"));
@@ -230,7 +249,11 @@ fn of_response(head: ResponseHeader) -> Told {
 }
 
 /// Whether the head that goes upstream has the field Via.
-pub(crate) fn upstream_request_filter<A: ProxyHttp + Drop>(app: A, alloc: Global) -> Result<bool> {
+pub(crate) fn upstream_request_filter<A: ProxyHttp + Drop>(
+    app: Result<A>,
+    alloc: Global,
+) -> Result<bool> {
+    let app = app?;
     let mut session = session_of(&app, alloc, &Method::GET)?;
     let answer = filter_request_head(&app, alloc, &mut session);
     release(session);
@@ -253,7 +276,11 @@ fn filter_request_head<A: ProxyHttp>(
 }
 
 /// What becomes of a head with the status 204.
-pub(crate) fn upstream_response_filter<A: ProxyHttp + Drop>(app: A, alloc: Global) -> Result<Told> {
+pub(crate) fn upstream_response_filter<A: ProxyHttp + Drop>(
+    app: Result<A>,
+    alloc: Global,
+) -> Result<Told> {
+    let app = app?;
     let mut session = session_of(&app, alloc, &Method::GET)?;
     let answer = filter_upstream_head(&app, alloc, &mut session);
     release(session);
@@ -276,7 +303,8 @@ fn filter_upstream_head<A: ProxyHttp>(
 }
 
 /// What becomes of a head with the status 204.
-pub(crate) fn response_filter<A: ProxyHttp + Drop>(app: A, alloc: Global) -> Result<Told> {
+pub(crate) fn response_filter<A: ProxyHttp + Drop>(app: Result<A>, alloc: Global) -> Result<Told> {
+    let app = app?;
     let mut session = session_of(&app, alloc, &Method::GET)?;
     let answer = filter_head(&app, alloc, &mut session);
     release(session);
@@ -300,9 +328,10 @@ fn filter_head<A: ProxyHttp>(
 
 /// How many fields are left of none.
 pub(crate) fn upstream_response_trailer_filter<A: ProxyHttp + Drop>(
-    app: A,
+    app: Result<A>,
     alloc: Global,
 ) -> Result<usize> {
+    let app = app?;
     let mut session = session_of(&app, alloc, &Method::GET)?;
     let mut ctx = app.new_ctx();
     let mut trailers = HeaderMap::new(alloc);
@@ -315,7 +344,11 @@ pub(crate) fn upstream_response_trailer_filter<A: ProxyHttp + Drop>(
 }
 
 /// Whether bytes end the body in the place of trailer fields.
-pub(crate) fn response_trailer_filter<A: ProxyHttp + Drop>(app: A, alloc: Global) -> Result<bool> {
+pub(crate) fn response_trailer_filter<A: ProxyHttp + Drop>(
+    app: Result<A>,
+    alloc: Global,
+) -> Result<bool> {
+    let app = app?;
     let mut session = session_of(&app, alloc, &Method::GET)?;
     let mut ctx = app.new_ctx();
     let mut trailers = HeaderMap::new(alloc);
@@ -327,9 +360,10 @@ pub(crate) fn response_trailer_filter<A: ProxyHttp + Drop>(app: A, alloc: Global
 
 /// How many messages go to the upstream and to the client in front of theirs.
 pub(crate) fn custom_forwarding<A: ProxyHttp + Drop>(
-    app: A,
+    app: Result<A>,
     alloc: Global,
 ) -> Result<(usize, usize)> {
+    let app = app?;
     let mut session = session_of(&app, alloc, &Method::GET)?;
     let mut ctx = app.new_ctx();
     let answer = app.custom_forwarding(alloc, &mut session, &mut ctx);
@@ -339,7 +373,11 @@ pub(crate) fn custom_forwarding<A: ProxyHttp + Drop>(
 }
 
 /// The first byte of what goes on of the message `m` of a custom client.
-pub(crate) fn downstream_message<A: ProxyHttp + Drop>(app: A, alloc: Global) -> Result<Option<u8>> {
+pub(crate) fn downstream_message<A: ProxyHttp + Drop>(
+    app: Result<A>,
+    alloc: Global,
+) -> Result<Option<u8>> {
+    let app = app?;
     let mut session = session_of(&app, alloc, &Method::GET)?;
     let mut ctx = app.new_ctx();
     let message = Bytes::from_static(b"m");
@@ -355,7 +393,11 @@ pub(crate) fn downstream_message<A: ProxyHttp + Drop>(app: A, alloc: Global) -> 
 }
 
 /// The first byte of what goes on of the message `m` of a custom upstream.
-pub(crate) fn upstream_message<A: ProxyHttp + Drop>(app: A, alloc: Global) -> Result<Option<u8>> {
+pub(crate) fn upstream_message<A: ProxyHttp + Drop>(
+    app: Result<A>,
+    alloc: Global,
+) -> Result<Option<u8>> {
+    let app = app?;
     let mut session = session_of(&app, alloc, &Method::GET)?;
     let mut ctx = app.new_ctx();
     let message = Bytes::from_static(b"m");
@@ -371,7 +413,12 @@ pub(crate) fn upstream_message<A: ProxyHttp + Drop>(app: A, alloc: Global) -> Re
 }
 
 /// The mark behind the call.
-pub(crate) fn logging<A: ProxyHttp + Drop>(app: A, alloc: Global, error: &Error) -> Result<u64> {
+pub(crate) fn logging<A: ProxyHttp + Drop>(
+    app: Result<A>,
+    alloc: Global,
+    error: &Error,
+) -> Result<u64> {
+    let app = app?;
     let mut session = session_of(&app, alloc, &Method::GET)?;
     let mut ctx = app.new_ctx();
     app.logging(&mut session, Some(error), &mut ctx);
@@ -382,10 +429,11 @@ pub(crate) fn logging<A: ProxyHttp + Drop>(app: A, alloc: Global, error: &Error)
 
 /// The mark behind the call.
 pub(crate) fn on_connection_reuse<A: ProxyHttp + Drop>(
-    app: A,
+    app: Result<A>,
     alloc: Global,
     previous: A::Kept,
 ) -> Result<u64> {
+    let app = app?;
     let mut session = session_of(&app, alloc, &Method::GET)?;
     let mut ctx = app.new_ctx();
     app.on_connection_reuse(&mut session, &mut ctx, previous);
@@ -396,13 +444,14 @@ pub(crate) fn on_connection_reuse<A: ProxyHttp + Drop>(
 
 /// The error of an attempt behind the hook, for GET, which may be repeated, or for POST.
 pub(crate) fn error_while_proxy<A: ProxyHttp + Drop>(
-    app: A,
+    app: Result<A>,
     alloc: Global,
     repeats: bool,
     error: Error,
     reused: bool,
 ) -> Result<Error> {
     let method = if repeats { Method::GET } else { Method::POST };
+    let app = app?;
     let mut session = session_of(&app, alloc, &method)?;
     let mut ctx = app.new_ctx();
     let answer = app.error_while_proxy(&peer(), &mut session, error, &mut ctx, reused);
@@ -411,10 +460,11 @@ pub(crate) fn error_while_proxy<A: ProxyHttp + Drop>(
 }
 
 pub(crate) fn fail_to_connect<A: ProxyHttp + Drop>(
-    app: A,
+    app: Result<A>,
     alloc: Global,
     error: Error,
 ) -> Result<Error> {
+    let app = app?;
     let mut session = session_of(&app, alloc, &Method::GET)?;
     let mut ctx = app.new_ctx();
     let answer = app.fail_to_connect(&mut session, &peer(), &mut ctx, error);
@@ -424,10 +474,11 @@ pub(crate) fn fail_to_connect<A: ProxyHttp + Drop>(
 
 /// What it answers, and how many tasks it queued.
 pub(crate) fn fail_to_proxy<A: ProxyHttp + Drop>(
-    app: A,
+    app: Result<A>,
     alloc: Global,
     error: &Error,
 ) -> Result<(FailToProxy, usize)> {
+    let app = app?;
     let mut session = session_of(&app, alloc, &Method::GET)?;
     let answer = fail(&app, alloc, &mut session, error);
     release(session);
@@ -448,7 +499,11 @@ fn fail<A: ProxyHttp>(
 }
 
 /// What becomes of the answer to a purge that found something.
-pub(crate) fn purge_response_filter<A: ProxyHttp + Drop>(app: A, alloc: Global) -> Result<Told> {
+pub(crate) fn purge_response_filter<A: ProxyHttp + Drop>(
+    app: Result<A>,
+    alloc: Global,
+) -> Result<Told> {
+    let app = app?;
     let session = session_of(&app, alloc, &Method::GET)?;
     let answer = filter_purge(&app, alloc, &session);
     release(session);
@@ -472,9 +527,10 @@ fn filter_purge<A: ProxyHttp>(app: &A, alloc: Global, session: &Session<A::Modul
 /// The first byte of what is left of the piece `hi` of the request, and how many calls were
 /// entered.
 pub(crate) fn module_request_body<A: ProxyHttp + Drop>(
-    app: A,
+    app: Result<A>,
     alloc: Global,
 ) -> Result<(Option<u8>, usize)> {
+    let app = app?;
     let mut session = session_of(&app, alloc, &Method::GET)?;
     let ctx = app.new_ctx();
     let mut piece = Some(Bytes::from_static(b"hi"));
@@ -488,9 +544,10 @@ pub(crate) fn module_request_body<A: ProxyHttp + Drop>(
 
 /// The same of a piece of the response.
 pub(crate) fn module_response_body<A: ProxyHttp + Drop>(
-    app: A,
+    app: Result<A>,
     alloc: Global,
 ) -> Result<(Option<u8>, usize)> {
+    let app = app?;
     let mut session = session_of(&app, alloc, &Method::GET)?;
     let ctx = app.new_ctx();
     let mut piece = Some(Bytes::from_static(b"hi"));
@@ -504,9 +561,10 @@ pub(crate) fn module_response_body<A: ProxyHttp + Drop>(
 
 /// What becomes of a head with the status 204, and how many calls were entered.
 pub(crate) fn module_response_header<A: ProxyHttp + Drop>(
-    app: A,
+    app: Result<A>,
     alloc: Global,
 ) -> Result<(Told, usize)> {
+    let app = app?;
     let mut session = session_of(&app, alloc, &Method::GET)?;
     let answer = pass_head(&app, alloc, &mut session);
     let entries = session.seen.log.len();
@@ -532,9 +590,10 @@ fn pass_head<A: ProxyHttp>(
 
 /// Whether bytes end the body in the place of trailer fields, and how many calls were entered.
 pub(crate) fn module_response_trailer<A: ProxyHttp + Drop>(
-    app: A,
+    app: Result<A>,
     alloc: Global,
 ) -> Result<(bool, usize)> {
+    let app = app?;
     let mut session = session_of(&app, alloc, &Method::GET)?;
     let ctx = app.new_ctx();
     let mut trailers = Some(HeaderMap::new(alloc));
@@ -547,9 +606,10 @@ pub(crate) fn module_response_trailer<A: ProxyHttp + Drop>(
 
 /// The same at the end of a response.
 pub(crate) fn module_response_done<A: ProxyHttp + Drop>(
-    app: A,
+    app: Result<A>,
     alloc: Global,
 ) -> Result<(bool, usize)> {
+    let app = app?;
     let mut session = session_of(&app, alloc, &Method::GET)?;
     let ctx = app.new_ctx();
     let answer = call_module_response_done(&app, &mut session, &ctx);

@@ -3,18 +3,12 @@ ghost use Rattle.std.specs.Prelude.{IsSome};
 ghost use Rattle.relay_session.specs.Reading.{head_of};
 
 use crate::tests::scripted::app_of;
-use bytes::Bytes;
-use http::Method;
+use crate::tests::support::{defaults, expect, hook_at, release, unmade};
 use relay_closing::{Cause, End, Place, begin_closing, take_turn};
-use relay_h1::Framing;
-use relay_hooks::{Defaults, HttpModule, ProxyHttp, Session};
+use relay_hooks::{HttpModule, ProxyHttp, Session};
 use relay_script::Action;
-use relay_session::HttpSession;
-use relay_tasks::{Error, ErrorType, Fail, Hook, Item, Peer, PhaseLog, RequestHeader, Result};
+use relay_tasks::{Error, ErrorType, Fail, Hook, Item, PhaseLog, Result};
 use std::alloc::Global;
-use std::test::Fail as Failed;
-
-type Checked = std::result::Result<(), Failed>;
 
 /// How a request ended; `Reported` says whether the line on it is that of `GET /a`.
 #[derive(Clone, Copy, Debug, PartialEq, Eq)]
@@ -24,50 +18,31 @@ enum Told {
     Reported(bool),
 }
 
-/// What came of the end of a request: how it ended, the error of which its end tells, the status
-/// with which the client was answered, whether a final head was queued, and the hooks that the log
-/// tells, with the error that `logging` was given.
+/// What came of the end of a request: how it ended, whether its end and `logging` tell the error
+/// that it was given, the status with which the client was answered, whether a final head was
+/// queued, the hooks that the log tells, and whether a value is kept.
 #[derive(Clone, Copy, Debug, PartialEq, Eq)]
 struct Came {
     told: Told,
-    error: Option<Error>,
+    is_told: bool,
     code: u16,
     answered: bool,
     hooks: [Option<Hook>; 5],
-    logged: Option<Error>,
+    keeps: bool,
 }
-
-/// What came of the end, and the value that is kept where the client goes back, or none.
-type Closed<K> = (Came, Option<K>);
-
-/// Lets go of a value. To drop a session is dear to prove, so no other place does.
-fn release<T: Drop>(_value: T) {}
 
 /// The end of a GET for `/a` with that error or none; out of memory where that is out of reach.
 fn closed<A: ProxyHttp + Drop>(
-    app: A,
+    app: Result<A>,
     alloc: Global,
     error: Option<Error>,
     goes_back: bool,
-) -> Result<Closed<A::Kept>> {
-    closed_as(app, alloc, error, goes_back, true)
-}
-
-/// The same, with the session's keepalive flag on or off before it.
-fn closed_as<A: ProxyHttp + Drop>(
-    app: A,
-    alloc: Global,
-    error: Option<Error>,
-    goes_back: bool,
-    keepalive: bool,
-) -> Result<Closed<A::Kept>> {
-    let head = RequestHeader::build(alloc, &Method::GET, b"/a")?;
-    let client = HttpSession::begun_http1(alloc, head, Framing::Empty);
-    let mut session = Session::new_h1_unmade(alloc, client);
-    session.set_keepalive(keepalive);
+) -> Result<Came> {
+    let app = app?;
+    let mut session = unmade(alloc)?;
     let mut ctx = app.new_ctx();
     let place = run(&app, &mut session, &mut ctx, error, goes_back);
-    let came = came_of(&session, place);
+    let came = came_of(&session, error, place);
     release(session);
     release(ctx);
     came
@@ -92,47 +67,55 @@ fn run<A: ProxyHttp>(
 }
 
 /// What came of an end.
-fn came_of<M: HttpModule, K: Drop>(session: &Session<M>, place: Place<K>) -> Result<Closed<K>> {
+fn came_of<M: HttpModule, K: Drop>(
+    session: &Session<M>,
+    error: Option<Error>,
+    place: Place<K>,
+) -> Result<Came> {
     match place {
         Place::At(_) => Err(Fail::OutOfMemory),
         Place::Lost => Err(Fail::OutOfMemory),
-        Place::Ended(End::Gone(cause)) => Ok((told_of(session, &cause), None)),
-        Place::Ended(End::Kept(cause, kept)) => Ok((told_of(session, &cause), kept)),
+        Place::Ended(End::Gone(cause)) => Ok(told_of(session, error, &cause, false)),
+        Place::Ended(End::Kept(cause, kept)) => {
+            Ok(told_of(session, error, &cause, kept.is_some()))
+        }
     }
 }
 
-fn told_of<M: HttpModule>(session: &Session<M>, cause: &Cause) -> Came {
+fn told_of<M: HttpModule>(
+    session: &Session<M>,
+    error: Option<Error>,
+    cause: &Cause,
+    keeps: bool,
+) -> Came {
     let (told, code) = match cause {
         Cause::Finished => (Told::Finished, 0),
         Cause::Hidden(failure) => (Told::Hidden, failure.answer.error_code),
         Cause::Reported(failure, line) => {
-            let is_line = line.as_slice() == b"GET /a, Host: ".as_slice();
+            let is_line = line.as_slice() == b"GET /a, Host: h".as_slice();
             (Told::Reported(is_line), failure.answer.error_code)
         }
     };
     let log = session.phase_log();
     Came {
         told,
-        error: cause.error(),
+        is_told: cause.error() == error && logged(log) == error,
         code,
         answered: session.as_downstream().response_written(),
-        hooks: [
-            hook_at(log, 0),
-            hook_at(log, 1),
-            hook_at(log, 2),
-            hook_at(log, 3),
-            hook_at(log, 4),
-        ],
-        logged: logged(log),
+        hooks: hooks_of(log),
+        keeps,
     }
 }
 
-/// The hook of the entry at that place.
-pub(crate) fn hook_at(log: &PhaseLog, at: usize) -> Option<Hook> {
-    match log.get(at) {
-        Some(entry) => Some(entry.hook),
-        None => None,
-    }
+/// The first hooks that a log tells.
+fn hooks_of(log: &PhaseLog) -> [Option<Hook>; 5] {
+    [
+        hook_at(log, 0),
+        hook_at(log, 1),
+        hook_at(log, 2),
+        hook_at(log, 3),
+        hook_at(log, 4),
+    ]
 }
 
 /// The error that `logging` was given, or none.
@@ -155,69 +138,59 @@ fn failure_of(item: &Item) -> Option<Error> {
     }
 }
 
-fn defaults() -> Defaults {
-    Defaults::new(Peer {
-        address: Bytes::from_static(b"h"),
-        tls: false,
-        allows_h1: true,
-    })
-}
-
-/// The four hooks for an error, and then that one or none.
-fn hooks_behind(last: Option<Hook>) -> [Option<Hook>; 5] {
-    [
-        Some(Hook::FailToProxy),
-        Some(Hook::SuppressErrorLog),
-        Some(Hook::RequestSummary),
-        Some(Hook::Logging),
-        last,
-    ]
-}
+/// The hooks for an error, the last of which is called where the client goes back.
+const HOOKS: [Option<Hook>; 5] = [
+    Some(Hook::FailToProxy),
+    Some(Hook::SuppressErrorLog),
+    Some(Hook::RequestSummary),
+    Some(Hook::Logging),
+    Some(Hook::PersistConnectionContext),
+];
 
 #[test]
-fn answers_an_error_by_its_code(rt: HostRuntime) -> Checked {
+fn answers_an_error_by_its_code(rt: HostRuntime) {
     let error = Error::new_up(ErrorType::ConnectError);
     let came = Came {
         told: Told::Reported(true),
-        error: Some(error),
+        is_told: true,
         code: 502,
         answered: true,
-        hooks: hooks_behind(None),
-        logged: Some(error),
+        hooks: HOOKS,
+        keeps: false,
     };
-    assert_eq!(rt;
-        closed(defaults(), rt.alloc(), Some(error), false),
-        Ok((came, None))
+    expect(
+        &rt,
+        closed(defaults(), rt.alloc(), Some(error), true),
+        Ok(came),
     );
-    Ok(())
 }
 
 #[test]
-fn leaves_an_error_of_the_client_unanswered(rt: HostRuntime) -> Checked {
+fn leaves_an_error_of_the_client_unanswered(rt: HostRuntime) {
     let error = Error::new_down(ErrorType::ReadError);
     let came = Came {
         told: Told::Reported(true),
-        error: Some(error),
+        is_told: true,
         code: 0,
         answered: false,
-        hooks: hooks_behind(Some(Hook::PersistConnectionContext)),
-        logged: Some(error),
+        hooks: HOOKS,
+        keeps: false,
     };
-    assert_eq!(rt;
+    expect(
+        &rt,
         closed(defaults(), rt.alloc(), Some(error), true),
-        Ok((came, None))
+        Ok(came),
     );
-    Ok(())
 }
 
 #[test]
-fn hides_an_error(rt: HostRuntime) -> Checked {
+fn hides_an_error(rt: HostRuntime) {
     let alloc = rt.alloc();
     let error = Error::new(ErrorType::HTTPStatus(403));
-    let app = app_of(alloc, Hook::SuppressErrorLog, Action::Say(true))?;
+    let app = app_of(alloc, Hook::SuppressErrorLog, Action::Say(true));
     let came = Came {
         told: Told::Hidden,
-        error: Some(error),
+        is_told: true,
         code: 403,
         answered: true,
         hooks: [
@@ -227,19 +200,18 @@ fn hides_an_error(rt: HostRuntime) -> Checked {
             None,
             None,
         ],
-        logged: Some(error),
+        keeps: false,
     };
-    assert_eq!(rt; closed(app, alloc, Some(error), false), Ok((came, None)));
-    Ok(())
+    expect(&rt, closed(app, alloc, Some(error), false), Ok(came));
 }
 
 #[test]
-fn keeps_a_value(rt: HostRuntime) -> Checked {
+fn keeps_a_value(rt: HostRuntime) {
     let alloc = rt.alloc();
-    let app = app_of(alloc, Hook::PersistConnectionContext, Action::Keep(5))?;
+    let app = app_of(alloc, Hook::PersistConnectionContext, Action::Keep(5));
     let came = Came {
         told: Told::Finished,
-        error: None,
+        is_told: true,
         code: 0,
         answered: false,
         hooks: [
@@ -249,40 +221,7 @@ fn keeps_a_value(rt: HostRuntime) -> Checked {
             None,
             None,
         ],
-        logged: None,
+        keeps: true,
     };
-    assert_eq!(rt; closed(app, alloc, None, true), Ok((came, Some(5))));
-    Ok(())
-}
-
-#[test]
-fn keeps_nothing_of_a_client_that_does_not_go_back(rt: HostRuntime) -> Checked {
-    let alloc = rt.alloc();
-    let app = app_of(alloc, Hook::PersistConnectionContext, Action::Keep(5))?;
-    let came = Came {
-        told: Told::Finished,
-        error: None,
-        code: 0,
-        answered: false,
-        hooks: [Some(Hook::Logging), None, None, None, None],
-        logged: None,
-    };
-    assert_eq!(rt; closed(app, alloc, None, false), Ok((came, None)));
-    Ok(())
-}
-
-#[test]
-fn keeps_nothing_of_a_client_that_is_not_to_be_kept(rt: HostRuntime) -> Checked {
-    let alloc = rt.alloc();
-    let app = app_of(alloc, Hook::PersistConnectionContext, Action::Keep(5))?;
-    let came = Came {
-        told: Told::Finished,
-        error: None,
-        code: 0,
-        answered: false,
-        hooks: [Some(Hook::Logging), None, None, None, None],
-        logged: None,
-    };
-    assert_eq!(rt; closed_as(app, alloc, None, true, false), Ok((came, None)));
-    Ok(())
+    expect(&rt, closed(app, alloc, None, true), Ok(came));
 }

@@ -1,20 +1,11 @@
 //! Errors of every kind and source: how the application that decides nothing marks and answers them,
 //! against values written by hand.
 use crate::tests::calls;
-use bytes::Bytes;
+use crate::tests::support::{defaults, expect};
 use http::Method;
-use relay_hooks::Defaults;
 use relay_hooks::defaults::{answer_code, is_idempotent};
-use relay_tasks::{Error, ErrorSource, ErrorType, Peer, Result, RetryType};
+use relay_tasks::{Error, ErrorSource, ErrorType, Result, RetryType};
 use std::alloc::Global;
-
-/// Each side.
-const SIDES: [ErrorSource; 4] = [
-    ErrorSource::Upstream,
-    ErrorSource::Downstream,
-    ErrorSource::Internal,
-    ErrorSource::Unset,
-];
 
 /// Each kind, with the status for the upstream's, the client's and the relay's own errors; those of
 /// no side are answered as the relay's own.
@@ -41,52 +32,27 @@ const ANSWERS: [(ErrorType, u16, u16, u16); 20] = [
     (ErrorType::HTTPStatus(0), 500, 500, 500),
 ];
 
-fn peer() -> Peer {
-    Peer {
-        address: Bytes::from_static(b"h"),
-        tls: false,
-        allows_h1: true,
-    }
-}
-
-/// An error of that kind and side.
-fn error_of(etype: ErrorType, esource: ErrorSource) -> Error {
+/// The status for an error of that kind and side.
+fn code_of(etype: ErrorType, esource: ErrorSource) -> u16 {
     let mut error = Error::new(etype);
     error.esource = esource;
-    error
+    answer_code(&error)
 }
 
-/// The status with which the error is answered, and how many tasks were queued.
-fn answer_to(alloc: Global, etype: ErrorType, side: ErrorSource) -> Result<(u16, usize)> {
-    let app = Defaults::new(peer());
-    let (told, queued) = calls::fail_to_proxy(app, alloc, &error_of(etype, side))?;
-    Ok((told.error_code, queued))
-}
-
-#[test]
-fn answers_each_kind_by_its_side(rt: HostRuntime) {
-    let alloc = rt.alloc();
-    for (etype, up, down, own) in ANSWERS {
-        let wants = [up, down, own, own];
-        for (side, want) in SIDES.into_iter().zip(wants) {
-            let queued = usize::from(want > 0);
-            assert_eq!(rt;
-                answer_to(alloc, etype, side),
-                Ok((want, queued)),
-                "{etype:?} {side:?}"
-            );
-        }
-    }
+/// The statuses for the upstream's, the client's, the relay's own errors, and those of no side.
+fn codes_of(etype: ErrorType) -> [u16; 4] {
+    [
+        code_of(etype, ErrorSource::Upstream),
+        code_of(etype, ErrorSource::Downstream),
+        code_of(etype, ErrorSource::Internal),
+        code_of(etype, ErrorSource::Unset),
+    ]
 }
 
 #[test]
 fn tells_the_status_of_each_kind_by_its_side(rt: HostRuntime) {
     for (etype, up, down, own) in ANSWERS {
-        let wants = [up, down, own, own];
-        for (side, want) in SIDES.into_iter().zip(wants) {
-            let code = answer_code(&error_of(etype, side));
-            assert_eq!(rt; code, want, "{etype:?} {side:?}");
-        }
+        assert_eq!(rt; codes_of(etype), [up, down, own, own], "{etype:?}");
     }
 }
 
@@ -107,32 +73,42 @@ const MARKS: [(bool, bool, RetryType, bool); 12] = [
     (false, false, RetryType::Decided(false), false),
 ];
 
-/// The error behind the default, for GET or for POST.
-fn marked(alloc: Global, repeats: bool, reused: bool, error: Error) -> Result<Error> {
-    calls::error_while_proxy(Defaults::new(peer()), alloc, repeats, error, reused)
+/// Whether another attempt may follow an error with that mark, of a GET or of a POST.
+fn is_repeated(alloc: Global, repeats: bool, reused: bool, mark: RetryType) -> Result<bool> {
+    let mut error = Error::new_up(ErrorType::ReadError);
+    error.retry = mark;
+    let treated = calls::error_while_proxy(defaults(), alloc, repeats, error, reused)?;
+    Ok(treated.retry())
 }
 
 #[test]
-fn marks_each_kind_by_method_and_reuse(rt: HostRuntime) {
+fn marks_by_method_and_reuse(rt: HostRuntime) {
     let alloc = rt.alloc();
-    for (etype, _, _, _) in ANSWERS {
-        for side in SIDES {
-            for (repeats, reused, mark, again) in MARKS {
-                let mut error = error_of(etype, side);
-                error.retry = mark;
-                let mut want = error;
-                want.set_retry(again);
-                assert_eq!(rt; marked(alloc, repeats, reused, error), Ok(want));
-            }
-        }
+    for (repeats, reused, mark, again) in MARKS {
+        expect(&rt, is_repeated(alloc, repeats, reused, mark), Ok(again));
     }
+}
+
+fn repeats(method: Method) -> bool {
+    is_idempotent(&method)
 }
 
 #[test]
 fn repeats_the_methods_that_are_idempotent(rt: HostRuntime) {
-    assert!(rt; is_idempotent(&Method::GET) && is_idempotent(&Method::HEAD));
-    assert!(rt; is_idempotent(&Method::OPTIONS) && is_idempotent(&Method::TRACE));
-    assert!(rt; is_idempotent(&Method::PUT) && is_idempotent(&Method::DELETE));
-    assert!(rt; !is_idempotent(&Method::POST) && !is_idempotent(&Method::PATCH));
-    assert!(rt; !is_idempotent(&Method::CONNECT) && !is_idempotent(&Method::QUERY));
+    let of_six = [
+        repeats(Method::GET),
+        repeats(Method::HEAD),
+        repeats(Method::OPTIONS),
+        repeats(Method::TRACE),
+        repeats(Method::PUT),
+        repeats(Method::DELETE),
+    ];
+    assert_eq!(rt; of_six, [true; 6]);
+    let of_four = [
+        repeats(Method::POST),
+        repeats(Method::PATCH),
+        repeats(Method::CONNECT),
+        repeats(Method::QUERY),
+    ];
+    assert_eq!(rt; of_four, [false; 4]);
 }

@@ -3,23 +3,18 @@
 ghost use Rattle.std.specs.Prelude.{IfOk, IsSome, OnOk};
 ghost use Rattle.relay_session.specs.Reading.{head_of};
 
+use crate::tests::support::{defaults, expect, peer, release};
 use bytes::Bytes;
 use http::Method;
 use relay_h1::{Connection, Framing};
-use relay_hooks::{Defaults, ProxyHttp, Session};
+use relay_hooks::{ProxyHttp, Session};
 use relay_links::{ReadItem, ScriptLink};
 use relay_session::HttpSession;
-use relay_tasks::{Error, ErrorType, Fail, Peer, PhaseLog, RequestHeader, Result, Took, View};
+use relay_tasks::{Error, ErrorType, Fail, PhaseLog, RequestHeader, Result, Took};
 use relay_trying::treat_failure;
 use std::alloc::{AllocError, Global};
-use std::test::Fail as Failed;
-
-type Checked = std::result::Result<(), Failed>;
 
 type Client = Connection<ScriptLink, ()>;
-
-/// Lets go of a value. To drop a session is dear to prove, so no other place does.
-fn release<T: Drop>(_value: T) {}
 
 /// One byte more than is kept of a body.
 const LONG: usize = 65_537;
@@ -63,77 +58,38 @@ fn read(alloc: Global, session: &mut HttpSession, client: &mut Client, pieces: u
     Ok(())
 }
 
-/// The error of an attempt behind the hook, and what the log shows of the session before that.
+/// Whether another attempt may follow the error of an attempt behind the hook, and whether the log
+/// shows that the body is kept no longer.
 fn treated<A: ProxyHttp + Drop>(
-    app: A,
+    app: Result<A>,
     alloc: Global,
     pieces: usize,
-    error: Error,
-) -> Result<(Error, Option<View>)> {
+) -> Result<(bool, Option<bool>)> {
+    let app = app?;
     let client = put_behind(alloc, pieces)?;
     let mut session = Session::new_h1_unmade(alloc, client);
     let mut ctx = app.new_ctx();
+    let mut error = Error::new_up(ErrorType::ReadError);
+    error.set_retry(true);
     let treated = treat_failure(&app, &mut session, &mut ctx, &peer(), error, false);
-    let view = first_view(session.phase_log());
+    let truncated = is_truncated(session.phase_log());
     release(session);
     release(ctx);
-    Ok((treated?, view))
+    Ok((treated?.retry(), truncated))
 }
 
-/// What the first entry of the log shows.
-fn first_view(log: &PhaseLog) -> Option<View> {
+/// Whether the first entry of the log shows that the body is kept no longer.
+fn is_truncated(log: &PhaseLog) -> Option<bool> {
     match log.get(0) {
-        Some(entry) => Some(entry.view),
+        Some(entry) => Some(entry.view.truncated),
         None => None,
     }
 }
 
-fn peer() -> Peer {
-    Peer {
-        address: Bytes::from_static(b"h"),
-        tls: false,
-        allows_h1: true,
-    }
-}
-
-/// What is shown of a session of which nothing was answered.
-fn view(truncated: bool) -> Option<View> {
-    Some(View {
-        final_head: false,
-        truncated,
-        upgraded: false,
-    })
-}
-
 #[test]
-fn tries_again_while_the_body_is_kept(rt: HostRuntime) -> Checked {
+fn tries_again_while_the_body_is_kept(rt: HostRuntime) {
     let alloc = rt.alloc();
-    let mut error = Error::new_up(ErrorType::ReadError);
-    error.set_retry(true);
-    for pieces in 0..5usize {
-        let found = treated(Defaults::new(peer()), alloc, pieces, error);
-        assert_eq!(rt; found, Ok((error, view(false))), "after {pieces}");
-    }
-    let mut final_error = error;
-    final_error.set_retry(false);
-    let found = treated(Defaults::new(peer()), alloc, 5, error);
-    assert_eq!(rt; found, Ok((final_error, view(true))));
-    Ok(())
-}
-
-/// Whether the view of a session is truncated once so many pieces came.
-fn is_truncated(alloc: Global, pieces: usize) -> Result<bool> {
-    let client = put_behind(alloc, pieces)?;
-    let session = Session::new_h1(alloc, client);
-    let view = session.seen.view();
-    release(session);
-    Ok(view.truncated)
-}
-
-#[test]
-fn shows_that_65537_bytes_are_not_kept(rt: HostRuntime) -> Checked {
-    assert_eq!(rt; is_truncated(rt.alloc(), 0), Ok(false));
-    assert_eq!(rt; is_truncated(rt.alloc(), 4), Ok(false));
-    assert_eq!(rt; is_truncated(rt.alloc(), 5), Ok(true));
-    Ok(())
+    expect(&rt, treated(defaults(), alloc, 0), Ok((true, Some(false))));
+    expect(&rt, treated(defaults(), alloc, 4), Ok((true, Some(false))));
+    expect(&rt, treated(defaults(), alloc, 5), Ok((false, Some(true))));
 }

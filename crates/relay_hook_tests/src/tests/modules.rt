@@ -1,32 +1,25 @@
 //! Each public call of a session with modules once with ample memory, over a module that rewrites
 //! what passes; and each wrapper of a filter of the modules once, over modules that leave it.
-ghost use Rattle.std.specs.Prelude.{◌≡◌};
+ghost use Rattle.std.specs.Prelude.{◌≡◌, IsSome};
+ghost use Rattle.relay_session.specs.Reading.{head_of};
 
 use crate::tests::calls::{self, Told};
+use crate::tests::support::{defaults, expect, is_written, release};
 use bytes::Bytes;
 use http::Method;
 use http_header::{CONTENT_LENGTH, HeaderMap, HeaderValue, TRANSFER_ENCODING, VIA};
-use relay_h1::{Connection, Framing};
-use relay_hooks::Defaults;
-use relay_links::{Put, ScriptLink, WriteItem};
+use relay_h1::Framing;
 use relay_modules::{HttpModule, Session};
 use relay_session::HttpSession;
 use relay_tasks::{
     Context, Error, ErrorType, Fail, HttpTask, RequestHeader, ResponseHeader, Result, TaskList,
 };
 use std::alloc::Global;
-use std::process::Abort;
-use std::str;
-use std::test::Fail as Failed;
-
-type Checked = std::result::Result<(), Failed>;
 
 /// A module that adds a field to the request's head, writes `ho` for each piece, refuses the piece
 /// `no`, and writes `end` for trailer fields.
 #[derive(Drop)]
-struct Rewrites {
-    alloc: Global,
-}
+struct Rewrites;
 
 /// The error with which the piece `no` is refused.
 fn refused() -> Fail {
@@ -72,170 +65,196 @@ impl HttpModule for Rewrites {
     }
 }
 
-/// A session of a GET whose body has ended, with that module.
-fn session(alloc: Global) -> Result<Session<Rewrites>> {
-    let head = RequestHeader::build(alloc, &Method::GET, b"/")?;
-    let client = HttpSession::begun_http1(alloc, head, Framing::Empty);
-    Ok(Session::new_h1_with_modules(alloc, client, Rewrites { alloc }))
+/// What is tried of a session.
+#[derive(Clone, Copy)]
+enum Tried {
+    Batch,
+    Refusal,
+    Upgrade,
+    Calls,
+    Later,
+    Head,
+    Answers,
 }
 
-/// A head that is final, before a body of that length.
-fn head(alloc: Global, length: u64) -> Result<ResponseHeader> {
+/// What came of it over a session of a GET whose body has ended, with that module.
+fn came_of(alloc: Global, tried: Tried) -> Result<bool> {
+    let head = RequestHeader::build(alloc, &Method::GET, b"/")?;
+    let client = HttpSession::begun_http1(alloc, head, Framing::Empty);
+    let mut session = Session::new_h1_with_modules(alloc, client, Rewrites);
+    let came = run(alloc, &mut session, tried);
+    release(session);
+    came
+}
+
+fn run(alloc: Global, session: &mut Session<Rewrites>, tried: Tried) -> Result<bool>
+    requires { IsSome (head_of session.old.seen.downstream.reading) }
+{
+    match tried {
+        Tried::Batch => writes_a_batch(alloc, session),
+        Tried::Refusal => queues_nothing(alloc, session),
+        Tried::Upgrade => refuses_upgrades(alloc, session),
+        Tried::Calls => writes_call_by_call(alloc, session),
+        Tried::Later => keeps_tasks(alloc, session),
+        Tried::Head => filters_head(session),
+        Tried::Answers => answers(alloc, session),
+    }
+}
+
+/// A head that is final, before a body of two bytes.
+fn head(alloc: Global) -> Result<ResponseHeader> {
     let mut head = ResponseHeader::build(alloc, 200)?;
-    head.insert_header(CONTENT_LENGTH, HeaderValue::from_u64(alloc, length)?)?;
+    head.insert_header(CONTENT_LENGTH, HeaderValue::from_static("2"))?;
     Ok(head)
 }
 
 /// A batch of that head and that piece, which ends it.
 fn batch(alloc: Global, piece: &'static [u8]) -> Result<TaskList> {
     let mut tasks = TaskList::new(alloc);
-    tasks.push(HttpTask::Header(head(alloc, 2)?, false))?;
+    tasks.push(HttpTask::Header(head(alloc)?, false))?;
     tasks.push(HttpTask::Body(Some(Bytes::from_static(piece)), true))?;
     Ok(tasks)
 }
 
-/// What a link that takes all has taken of what waits.
-fn expect_written<M>(
-    rt: &impl Abort,
-    alloc: Global,
-    session: &mut Session<M>,
-    want: &str,
-) -> Checked {
-    let write = vec![in alloc; WriteItem::Take(1000)]?;
-    let link = ScriptLink::new(alloc, Vec::new(alloc), write);
-    let mut client: Connection<ScriptLink, u8> = Connection::new(alloc, link);
-    if session.seen.downstream.has_pending() {
-        assert_eq!(rt;
-            session.seen.downstream.write_pending(&mut client),
-            Put::Took(want.len())
-        );
-    }
-    assert_eq!(rt; str::from_utf8(client.link().taken()), Ok(want));
-    Ok(())
+/// What the module made of a piece.
+const HO: &[u8] = b"HTTP/1.1 200 OK\r\ncontent-length: 2\r\n\r\nho";
+
+fn writes_a_batch(alloc: Global, session: &mut Session<Rewrites>) -> Result<bool> {
+    let over = session.write_response_tasks(batch(alloc, b"hi")?)?;
+    let count = session.seen.take_wrote().len();
+    let shows_head = session.seen.view().final_head;
+    let written = is_written(alloc, session.as_downstream_mut(), HO);
+    Ok(over && count == 2 && shows_head && written)
 }
 
-#[test]
-fn writes_what_the_module_made(rt: HostRuntime) -> Checked {
-    let mut session = session(rt.alloc())?;
-    let tasks = batch(rt.alloc(), b"hi")?;
-    assert_eq!(rt; session.write_response_tasks(tasks), Ok(true));
-    assert!(rt; session.seen.view().final_head);
-    assert_eq!(rt; session.seen.take_wrote().len(), 2);
-    let want = "HTTP/1.1 200 OK\r\ncontent-length: 2\r\n\r\nho";
-    expect_written(&rt, rt.alloc(), &mut session, want)
+fn queues_nothing(alloc: Global, session: &mut Session<Rewrites>) -> Result<bool> {
+    let refusal = session.write_response_tasks(batch(alloc, b"no")?);
+    let count = session.seen.wrote.len();
+    let answered = session.as_downstream().response_written();
+    let written = is_written(alloc, session.as_downstream_mut(), b"");
+    Ok(refusal == Err(refused()) && count == 0 && !answered && written)
 }
 
-#[test]
-fn queues_nothing_of_a_batch_that_the_module_refuses(rt: HostRuntime) -> Checked {
-    let mut session = session(rt.alloc())?;
-    let tasks = batch(rt.alloc(), b"no")?;
-    assert_eq!(rt; session.write_response_tasks(tasks), Err(refused()));
-    assert!(rt; session.seen.wrote.is_empty() && !session.as_downstream().response_written());
-    expect_written(&rt, rt.alloc(), &mut session, "")
+/// An error of the relay's own.
+fn own(etype: ErrorType, context: Context) -> Fail {
+    Fail::Error(Error::explain(etype, context).into_in())
 }
 
-#[test]
-fn refuses_what_speaks_of_an_upgrade(rt: HostRuntime) -> Checked {
-    let mut session = session(rt.alloc())?;
-    let switches = ResponseHeader::build(rt.alloc(), 101)?;
-    let error = Error::explain(ErrorType::InvalidHTTPHeader, Context::Mismatch101).into_in();
-    assert_eq!(rt;
-        session.write_response_header_ref(&switches, false),
-        Err(Fail::Error(error))
-    );
+fn refuses_upgrades(alloc: Global, session: &mut Session<Rewrites>) -> Result<bool> {
+    let switches = ResponseHeader::build(alloc, 101)?;
+    let of_head = session.write_response_header_ref(&switches, false);
     session.set_proxy_tasks_enabled(true);
-    let error = Error::explain(ErrorType::InvalidHTTPHeader, Context::BeforeUpgrade).into_in();
-    let piece = HttpTask::UpgradedBody(None, true);
-    assert_eq!(rt;
-        session.send_downstream_proxy_task(piece),
-        Err(Fail::Error(error))
-    );
-    assert!(rt; !session.has_pending_downstream_tasks());
-    expect_written(&rt, rt.alloc(), &mut session, "")
+    let of_piece = session.send_downstream_proxy_task(HttpTask::UpgradedBody(None, true));
+    let waits = session.has_pending_downstream_tasks();
+    let of_head = of_head == Err(own(ErrorType::InvalidHTTPHeader, Context::Mismatch101));
+    let of_piece = of_piece == Err(own(ErrorType::InvalidHTTPHeader, Context::BeforeUpgrade));
+    Ok(of_head && of_piece && !waits)
 }
 
-#[test]
-fn writes_call_by_call(rt: HostRuntime) -> Checked {
-    let mut session = session(rt.alloc())?;
-    let mut head = ResponseHeader::build(rt.alloc(), 200)?;
+fn chunked(alloc: Global) -> Result<ResponseHeader> {
+    let mut head = ResponseHeader::build(alloc, 200)?;
     head.insert_header(TRANSFER_ENCODING, HeaderValue::from_static("chunked"))?;
-    assert_eq!(rt; session.write_response_header(head, false), Ok(()));
-    assert_eq!(rt; session.write_response_body(None, false), Ok(()));
-    let piece = Bytes::from_static(b"hello");
-    assert_eq!(rt; session.write_response_body(Some(piece), false), Ok(()));
-    let mut tasks = TaskList::new(rt.alloc());
+    Ok(head)
+}
+
+fn writes_call_by_call(alloc: Global, session: &mut Session<Rewrites>) -> Result<bool> {
+    session.write_response_header(chunked(alloc)?, false)?;
+    session.write_response_body(None, false)?;
+    session.write_response_body(Some(Bytes::from_static(b"hello")), false)?;
+    let mut tasks = TaskList::new(alloc);
     tasks.push(HttpTask::Trailer(None))?;
-    assert_eq!(rt; session.write_response_tasks(tasks), Ok(true));
-    let want =
-        "HTTP/1.1 200 OK\r\ntransfer-encoding: chunked\r\n\r\n2\r\nho\r\n3\r\nend\r\n0\r\n\r\n";
-    expect_written(&rt, rt.alloc(), &mut session, want)
+    let over = session.write_response_tasks(tasks)?;
+    let want = b"HTTP/1.1 200 OK\r\ntransfer-encoding: chunked\r\n\r\n\
+        2\r\nho\r\n3\r\nend\r\n0\r\n\r\n";
+    let written = is_written(alloc, session.as_downstream_mut(), want);
+    Ok(over && written)
 }
 
-#[test]
-fn keeps_tasks_for_later(rt: HostRuntime) -> Checked {
-    let mut session = session(rt.alloc())?;
-    let error = Error::explain(ErrorType::WriteError, Context::NoTaskApi).into_in();
-    assert_eq!(rt;
-        session.send_downstream_proxy_task(HttpTask::Done),
-        Err(Fail::Error(error))
-    );
+fn keeps_tasks(alloc: Global, session: &mut Session<Rewrites>) -> Result<bool> {
+    let off = session.send_downstream_proxy_task(HttpTask::Done);
     session.set_proxy_tasks_enabled(true);
-    assert_eq!(rt; session.write_downstream_proxy_tasks(), Ok(false));
-    let first = HttpTask::Header(head(rt.alloc(), 2)?, false);
-    let second = HttpTask::Body(Some(Bytes::from_static(b"hi")), true);
-    assert_eq!(rt; session.send_downstream_proxy_task(first), Ok(()));
-    assert_eq!(rt; session.send_downstream_proxy_task(second), Ok(()));
-    assert!(rt; session.has_pending_downstream_tasks());
-    assert_eq!(rt; session.write_downstream_proxy_tasks(), Ok(true));
-    assert!(rt; !session.has_pending_downstream_tasks());
-    let want = "HTTP/1.1 200 OK\r\ncontent-length: 2\r\n\r\nho";
-    expect_written(&rt, rt.alloc(), &mut session, want)
+    let over_before = session.write_downstream_proxy_tasks()?;
+    session.send_downstream_proxy_task(HttpTask::Header(head(alloc)?, false))?;
+    let piece = Some(Bytes::from_static(b"hi"));
+    session.send_downstream_proxy_task(HttpTask::Body(piece, true))?;
+    let waits = session.has_pending_downstream_tasks();
+    let over = session.write_downstream_proxy_tasks()?;
+    let written = is_written(alloc, session.as_downstream_mut(), HO);
+    let off = off == Err(own(ErrorType::WriteError, Context::NoTaskApi));
+    Ok(off && !over_before && waits && over && written)
 }
 
-#[test]
-fn filters_the_head_of_the_request(rt: HostRuntime) -> Checked {
-    let mut session = session(rt.alloc())?;
-    assert!(rt; session.seen.downstream.has_head() && !session.seen.touched);
-    assert_eq!(rt; session.filter_request_header(), Ok(()));
-    assert!(rt; session.seen.touched && session.req_header().headers().contains_key(&VIA));
+fn filters_head(session: &mut Session<Rewrites>) -> Result<bool>
+    requires { IsSome (head_of session.old.seen.downstream.reading) }
+{
+    let touched_before = session.seen.touched;
+    session.filter_request_header()?;
+    let touched = !touched_before && session.seen.touched;
+    if !session.seen.downstream.has_head() {
+        return Ok(false);
+    }
+    let set = session.req_header().headers().contains_key(&VIA);
     session.seen.begin_call();
-    assert!(rt; !session.seen.touched);
+    let cleared = !session.seen.touched;
     session.req_header_mut().remove_header(&VIA);
-    assert!(rt; session.seen.touched && !session.req_header().headers().contains_key(&VIA));
-    Ok(())
+    let touched_again = session.seen.touched;
+    Ok(touched && set && cleared && touched_again)
 }
 
-#[test]
-fn keeps_its_flags(rt: HostRuntime) -> Checked {
-    let mut session = Session::new_h1(rt.alloc(), HttpSession::new_http1(rt.alloc()));
-    assert!(rt; session.seen.keepalive && session.phase_log().is_empty());
+/// Whether a new session is as its calls leave it.
+fn keeps_flags<M: HttpModule>(session: &mut Session<M>) -> bool {
+    let is_new = session.seen.keepalive && session.phase_log().is_empty();
     session.set_keepalive(false);
-    assert!(rt; !session.seen.keepalive && !session.upstream_headers_mutated_for_cache());
     session.mark_upstream_headers_mutated_for_cache();
-    assert!(rt; session.upstream_headers_mutated_for_cache());
-    assert!(rt; !session.is_process_shutting_down() && !session.may_spawn_subrequest());
-    assert_eq!(rt; session.upstream_body_bytes_received(), 0);
-    assert_eq!(rt; session.upstream_body_bytes_sent(), None);
-    assert_eq!(rt; session.upstream_write_pending_time(), 0);
-    Ok(())
+    let stands = !session.seen.keepalive && session.upstream_headers_mutated_for_cache();
+    let is_free = !session.is_process_shutting_down() && !session.may_spawn_subrequest();
+    let received = session.upstream_body_bytes_received();
+    let is_sent = session.upstream_body_bytes_sent().is_some();
+    let waited = session.upstream_write_pending_time();
+    is_new && stands && is_free && received == 0 && !is_sent && waited == 0
+}
+
+fn answers(alloc: Global, session: &mut Session<Rewrites>) -> Result<bool> {
+    session.respond_error_with_body(403, Bytes::from_static(b"no"))?;
+    session.respond_error(500)?;
+    session.as_downstream_mut().finish_body()?;
+    let count = session.seen.wrote.len();
+    let want = b"HTTP/1.1 403 Forbidden\r\nserver: Pingora\r\ncontent-length: 2\r\n\
+        cache-control: private, no-store\r\n\r\nno";
+    let written = is_written(alloc, session.as_downstream_mut(), want);
+    Ok(count == 2 && written)
 }
 
 #[test]
-fn answers_without_the_modules(rt: HostRuntime) -> Checked {
-    let mut session = session(rt.alloc())?;
-    let body = Bytes::from_static(b"no");
-    assert_eq!(rt; session.respond_error_with_body(403, body), Ok(()));
-    assert_eq!(rt; session.respond_error(500), Ok(()));
-    assert_eq!(rt; session.as_downstream_mut().finish_body(), Ok(()));
-    assert_eq!(rt; session.seen.wrote.len(), 2);
-    let want = "HTTP/1.1 403 Forbidden\r\nserver: Pingora\r\ncontent-length: 2\r\n\
-        cache-control: private, no-store\r\n\r\nno";
-    expect_written(&rt, rt.alloc(), &mut session, want)
+fn writes_what_the_module_made(rt: HostRuntime) {
+    expect(&rt, came_of(rt.alloc(), Tried::Batch), Ok(true));
+    expect(&rt, came_of(rt.alloc(), Tried::Calls), Ok(true));
+    expect(&rt, came_of(rt.alloc(), Tried::Later), Ok(true));
 }
 
-/// An application whose modules leave what they are given.
-fn app() -> Defaults {
-    Defaults::new(calls::peer())
+#[test]
+fn queues_nothing_that_is_refused(rt: HostRuntime) {
+    expect(&rt, came_of(rt.alloc(), Tried::Refusal), Ok(true));
+    expect(&rt, came_of(rt.alloc(), Tried::Upgrade), Ok(true));
+}
+
+#[test]
+fn filters_the_head_of_the_request(rt: HostRuntime) {
+    expect(&rt, came_of(rt.alloc(), Tried::Head), Ok(true));
+}
+
+#[test]
+fn answers_without_the_modules(rt: HostRuntime) {
+    expect(&rt, came_of(rt.alloc(), Tried::Answers), Ok(true));
+}
+
+#[test]
+fn keeps_its_flags(rt: HostRuntime) {
+    let alloc = rt.alloc();
+    let mut session = Session::new_h1(alloc, HttpSession::new_http1(alloc));
+    let kept = keeps_flags(&mut session);
+    release(session);
+    assert!(rt; kept);
 }
 
 #[test]
@@ -245,9 +264,30 @@ fn enters_each_call_of_the_modules_once(rt: HostRuntime) {
         status: 204,
         via: false,
     };
-    assert!(rt; calls::module_request_body(app(), alloc) == Ok((Some(b'h'), 1)));
-    assert!(rt; calls::module_response_header(app(), alloc) == Ok((same, 1)));
-    assert!(rt; calls::module_response_body(app(), alloc) == Ok((Some(b'h'), 1)));
-    assert!(rt; calls::module_response_trailer(app(), alloc) == Ok((false, 1)));
-    assert!(rt; calls::module_response_done(app(), alloc) == Ok((false, 1)));
+    let piece = Some(b'h');
+    expect(
+        &rt,
+        calls::module_request_body(defaults(), alloc),
+        Ok((piece, 1)),
+    );
+    expect(
+        &rt,
+        calls::module_response_header(defaults(), alloc),
+        Ok((same, 1)),
+    );
+    expect(
+        &rt,
+        calls::module_response_body(defaults(), alloc),
+        Ok((piece, 1)),
+    );
+    expect(
+        &rt,
+        calls::module_response_trailer(defaults(), alloc),
+        Ok((false, 1)),
+    );
+    expect(
+        &rt,
+        calls::module_response_done(defaults(), alloc),
+        Ok((false, 1)),
+    );
 }

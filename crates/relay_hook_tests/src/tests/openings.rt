@@ -4,18 +4,12 @@ ghost use Rattle.relay_session.specs.Reading.{head_of};
 ghost use Rattle.relay_hooks.specs.Session.{is_answered};
 
 use crate::tests::scripted::app_of;
-use bytes::Bytes;
-use http::Method;
-use relay_h1::Framing;
-use relay_hooks::{Defaults, HttpModule, ProxyHttp, Session};
+use crate::tests::support::{defaults, expect, release, unmade};
+use relay_hooks::{HttpModule, ProxyHttp, Session};
 use relay_opening::{End, Place, begin_opening, take_turn};
 use relay_script::Action;
-use relay_session::HttpSession;
-use relay_tasks::{Fail, Hook, Peer, RequestHeader, Result};
+use relay_tasks::{Fail, Hook, Result};
 use std::alloc::Global;
-use std::test::Fail as Failed;
-
-type Checked = std::result::Result<(), Failed>;
 
 /// How the hooks ended, how many calls the log tells, and whether a final head was queued.
 #[derive(Clone, Copy, Debug, PartialEq, Eq)]
@@ -25,14 +19,10 @@ struct Came {
     answered: bool,
 }
 
-/// Lets go of a value. To drop a session is dear to prove, so no other place does.
-fn release<T: Drop>(_value: T) {}
-
 /// The hooks of a GET for `/a`, called up to their end; out of memory where that is out of reach.
-fn opened<A: ProxyHttp + Drop>(app: A, alloc: Global, makes_modules: bool) -> Result<Came> {
-    let head = RequestHeader::build(alloc, &Method::GET, b"/a")?;
-    let client = HttpSession::begun_http1(alloc, head, Framing::Empty);
-    let mut session = Session::new_h1_unmade(alloc, client);
+fn opened<A: ProxyHttp + Drop>(app: Result<A>, alloc: Global, makes_modules: bool) -> Result<Came> {
+    let app = app?;
+    let mut session = unmade(alloc)?;
     let came = run(&app, &mut session, makes_modules);
     release(session);
     came
@@ -82,36 +72,35 @@ fn ends_as(end: End, calls: usize, answered: bool) -> Result<Came> {
 }
 
 #[test]
-fn lets_a_request_go_to_its_upstream(rt: HostRuntime) -> Checked {
-    let peer = Peer {
-        address: Bytes::from_static(b"h"),
-        tls: false,
-        allows_h1: true,
-    };
-    let went = opened(Defaults::new(peer), rt.alloc(), false);
-    assert_eq!(rt; went, ends_as(End::Attempts, 6, false));
-    Ok(())
+fn lets_a_request_go_to_its_upstream(rt: HostRuntime) {
+    let went = opened(defaults(), rt.alloc(), false);
+    expect(&rt, went, ends_as(End::Attempts, 6, false));
 }
 
 #[test]
-fn calls_the_modules_where_they_are_made(rt: HostRuntime) -> Checked {
+fn calls_the_modules_where_they_are_made(rt: HostRuntime) {
     let alloc = rt.alloc();
-    let app = app_of(alloc, Hook::IsPurge, Action::Say(true))?;
-    assert_eq!(rt; opened(app, alloc, true), ends_as(End::Purge, 6, false));
-    Ok(())
+    let app = app_of(alloc, Hook::IsPurge, Action::Say(true));
+    expect(&rt, opened(app, alloc, true), ends_as(End::Purge, 6, false));
 }
 
 #[test]
-fn ends_with_an_answer(rt: HostRuntime) -> Checked {
+fn ends_with_an_answer(rt: HostRuntime) {
     let alloc = rt.alloc();
     let refuses = Action::Answer {
         code: 403,
         say: true,
     };
-    let app = app_of(alloc, Hook::RequestFilter, refuses)?;
-    assert_eq!(rt; opened(app, alloc, false), ends_as(End::Answered, 4, true));
-    let declines = Action::Say(false);
-    let app = app_of(alloc, Hook::ProxyUpstreamFilter, declines)?;
-    assert_eq!(rt; opened(app, alloc, false), ends_as(End::Declined, 6, true));
-    Ok(())
+    let app = app_of(alloc, Hook::RequestFilter, refuses);
+    expect(
+        &rt,
+        opened(app, alloc, false),
+        ends_as(End::Answered, 4, true),
+    );
+    let app = app_of(alloc, Hook::ProxyUpstreamFilter, Action::Say(false));
+    expect(
+        &rt,
+        opened(app, alloc, false),
+        ends_as(End::Declined, 6, true),
+    );
 }

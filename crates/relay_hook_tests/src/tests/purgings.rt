@@ -3,25 +3,13 @@
 ghost use Rattle.std.specs.Prelude.{IsSome};
 ghost use Rattle.relay_session.specs.Reading.{head_of};
 
-use crate::tests::closings::hook_at;
-use crate::tests::scripted::app_of;
-use bytes::Bytes;
-use http::Method;
-use http_header::{HOST, HeaderValue, VIA};
-use relay_h1::{Connection, Framing};
-use relay_hooks::{Defaults, ProxyHttp, Session};
-use relay_links::{MemoryPurger, ScriptLink};
+use crate::tests::scripted::{failing, setting};
+use crate::tests::support::{defaults, expect, hook_at, is_written, release, unmade};
+use relay_hooks::{ProxyHttp, Session};
+use relay_links::MemoryPurger;
 use relay_purging::{End, ask_action, purge};
-use relay_script::Action;
-use relay_session::HttpSession;
-use relay_tasks::{
-    ErrorType, Fail, Fault, FaultKind, Hook, Peer, PurgeAction, Purged, RequestHeader, Result,
-    RetryType,
-};
+use relay_tasks::{Fail, Fault, FaultKind, Hook, PurgeAction, Purged, Result, RetryType};
 use std::alloc::Global;
-use std::test::Fail as Failed;
-
-type Checked = std::result::Result<(), Failed>;
 
 /// What came of a purge: its end, whether the purger was asked once to delete `/a` at `h`, the
 /// hooks that the log tells, and whether the client is written that text.
@@ -33,21 +21,16 @@ struct Came {
     is_written: bool,
 }
 
-/// Lets go of a value. To drop a session is dear to prove, so no other place does.
-fn release<T: Drop>(_value: T) {}
-
 /// A purge of `/a` at `h`, of which the purger answers that; out of memory where that is out of
 /// reach.
 fn purged<A: ProxyHttp + Drop>(
-    app: A,
+    app: Result<A>,
     alloc: Global,
     answer: Purged,
     want: &'static [u8],
 ) -> Result<Came> {
-    let mut head = RequestHeader::build(alloc, &Method::GET, b"/a")?;
-    head.insert_header(HOST, HeaderValue::from_static("h"))?;
-    let client = HttpSession::begun_http1(alloc, head, Framing::Empty);
-    let mut session = Session::new_h1_unmade(alloc, client);
+    let app = app?;
+    let mut session = unmade(alloc)?;
     let mut purger = MemoryPurger::new(alloc, answer);
     let mut ctx = app.new_ctx();
     let came = run(&app, &mut purger, &mut session, &mut ctx, want);
@@ -94,24 +77,6 @@ fn is_asked(purger: &MemoryPurger) -> bool {
     }
 }
 
-/// Whether a client that takes all is written that text.
-fn is_written(alloc: Global, session: &mut HttpSession, want: &'static [u8]) -> bool {
-    let link = ScriptLink::new(alloc, Vec::new(alloc), Vec::new(alloc));
-    let mut client: Connection<ScriptLink, u8> = Connection::new(alloc, link);
-    if session.has_pending() {
-        let _put = session.write_pending(&mut client);
-    }
-    client.link().taken() == want
-}
-
-fn defaults() -> Defaults {
-    Defaults::new(Peer {
-        address: Bytes::from_static(b"h"),
-        tls: false,
-        allows_h1: true,
-    })
-}
-
 /// A purge that was answered, and its client written what is wanted.
 fn answered() -> Result<Came> {
     Ok(Came {
@@ -142,47 +107,54 @@ const FAILED: &[u8] = b"HTTP/1.1 500 Internal Server Error\r\nserver: Pingora\r\
     content-length: 0\r\ncache-control: private, no-store\r\n\r\n";
 
 #[test]
-fn answers_by_what_the_purger_came_to(rt: HostRuntime) -> Checked {
+fn answers_by_what_the_purger_came_to(rt: HostRuntime) {
     let alloc = rt.alloc();
-    let fault = Fault {
+    let failed = Purged::Failed(Fault {
         kind: FaultKind::Connect,
         retry: RetryType::Decided(false),
-    };
-    let found = purged(defaults(), alloc, Purged::Found, FOUND);
-    assert_eq!(rt; found, answered());
-    let not_found = purged(defaults(), alloc, Purged::NotFound, NOT_FOUND);
-    assert_eq!(rt; not_found, answered());
-    let no_cache = purged(defaults(), alloc, Purged::NoCache, NO_CACHE);
-    assert_eq!(rt; no_cache, answered());
-    let failed = purged(defaults(), alloc, Purged::Failed(fault), FAILED);
-    assert_eq!(rt; failed, answered());
-    Ok(())
+    });
+    expect(
+        &rt,
+        purged(defaults(), alloc, Purged::Found, FOUND),
+        answered(),
+    );
+    expect(
+        &rt,
+        purged(defaults(), alloc, Purged::NotFound, NOT_FOUND),
+        answered(),
+    );
+    expect(
+        &rt,
+        purged(defaults(), alloc, Purged::NoCache, NO_CACHE),
+        answered(),
+    );
+    expect(&rt, purged(defaults(), alloc, failed, FAILED), answered());
 }
 
 #[test]
-fn answers_as_the_filter_left_it(rt: HostRuntime) -> Checked {
+fn answers_as_the_filter_left_it(rt: HostRuntime) {
     let alloc = rt.alloc();
-    let set = Action::Set {
-        name: VIA,
-        value: HeaderValue::from_static("relay"),
-    };
-    let app = app_of(alloc, Hook::PurgeResponseFilter, set)?;
-    assert_eq!(rt; purged(app, alloc, Purged::Found, VIA_RELAY), answered());
-    let fails = Action::Error(ErrorType::Custom(7));
-    let app = app_of(alloc, Hook::PurgeResponseFilter, fails)?;
-    assert_eq!(rt; purged(app, alloc, Purged::Found, FAILED), answered());
-    Ok(())
+    let app = setting(alloc, Hook::PurgeResponseFilter);
+    expect(
+        &rt,
+        purged(app, alloc, Purged::Found, VIA_RELAY),
+        answered(),
+    );
+    let app = failing(alloc, Hook::PurgeResponseFilter);
+    expect(&rt, purged(app, alloc, Purged::Found, FAILED), answered());
 }
 
 #[test]
-fn asks_nothing_more_out_of_memory(rt: HostRuntime) -> Checked {
+fn asks_nothing_more_out_of_memory(rt: HostRuntime) {
     let came = Came {
         end: End::Lost,
         is_asked: false,
         hooks: [Some(Hook::PurgeAction), None, None],
         is_written: true,
     };
-    let lost = purged(defaults(), rt.alloc(), Purged::OutOfMemory, b"");
-    assert_eq!(rt; lost, Ok(came));
-    Ok(())
+    expect(
+        &rt,
+        purged(defaults(), rt.alloc(), Purged::OutOfMemory, b""),
+        Ok(came),
+    );
 }

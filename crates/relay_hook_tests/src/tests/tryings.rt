@@ -2,22 +2,16 @@
 ghost use Rattle.std.specs.Prelude.{IsSome, OnOk};
 ghost use Rattle.relay_session.specs.Reading.{head_of};
 
-use crate::tests::closings::hook_at;
 use crate::tests::scripted::app_of;
-use bytes::Bytes;
+use crate::tests::support::{defaults, expect, hook_at, release, unmade};
 use http::Method;
-use relay_h1::Framing;
-use relay_hooks::{Defaults, HttpModule, ProxyHttp, Session};
+use relay_hooks::{ProxyHttp, Session};
 use relay_script::Action;
-use relay_session::HttpSession;
-use relay_tasks::{Error, ErrorType, Hook, Peer, RequestHeader, Result, RetryType};
+use relay_tasks::{Error, ErrorType, Hook, Peer, PhaseLog, RequestHeader, Result, RetryType};
 use relay_trying::{
     filter_head, name_peer, summarize, tell_connected, treat_failure, treat_refusal, warn,
 };
 use std::alloc::Global;
-use std::test::Fail as Failed;
-
-type Checked = std::result::Result<(), Failed>;
 
 /// What came of the error of an attempt: the error as it was treated, and whether the line on the
 /// request is that of `GET /a`, or none where the error is hidden.
@@ -28,26 +22,35 @@ struct Told {
 }
 
 /// The same, with the hooks that the log tells.
-#[derive(Clone, Copy, Debug, PartialEq, Eq)]
-struct Came {
-    told: Told,
-    hooks: [Option<Hook>; 6],
-}
-
-/// Lets go of a value. To drop a session is dear to prove, so no other place does.
-fn release<T: Drop>(_value: T) {}
+type Came = (Told, [Option<Hook>; 6]);
 
 /// An attempt of a GET for `/a` that fails with that error, behind its link or before it.
-fn tried<A: ProxyHttp + Drop>(app: A, alloc: Global, error: Error, links: bool) -> Result<Came> {
-    let head = RequestHeader::build(alloc, &Method::GET, b"/a")?;
-    let client = HttpSession::begun_http1(alloc, head, Framing::Empty);
-    let mut session = Session::new_h1_unmade(alloc, client);
+fn tried<A: ProxyHttp + Drop>(
+    app: Result<A>,
+    alloc: Global,
+    error: Error,
+    links: bool,
+) -> Result<Came> {
+    let app = app?;
+    let mut session = unmade(alloc)?;
     let mut ctx = app.new_ctx();
     let told = run(&app, &mut session, &mut ctx, error, links);
-    let came = came_of(&session, told);
+    let hooks = hooks_of(session.phase_log());
     release(session);
     release(ctx);
-    came
+    Ok((told?, hooks))
+}
+
+/// The first hooks that a log tells.
+fn hooks_of(log: &PhaseLog) -> [Option<Hook>; 6] {
+    [
+        hook_at(log, 0),
+        hook_at(log, 1),
+        hook_at(log, 2),
+        hook_at(log, 3),
+        hook_at(log, 4),
+        hook_at(log, 5),
+    ]
 }
 
 /// Names the peer, fails as is asked, and has the error treated and warned of.
@@ -71,7 +74,7 @@ fn run<A: ProxyHttp>(
         None
     } else {
         let line = summarize(app, session, ctx)?;
-        Some(line.as_slice() == b"GET /a, Host: ".as_slice())
+        Some(line.as_slice() == b"GET /a, Host: h".as_slice())
     };
     Ok(Told { treated, is_line })
 }
@@ -92,29 +95,6 @@ fn send_head<A: ProxyHttp>(
     Ok(())
 }
 
-fn came_of<M: HttpModule>(session: &Session<M>, told: Result<Told>) -> Result<Came> {
-    let log = session.phase_log();
-    Ok(Came {
-        told: told?,
-        hooks: [
-            hook_at(log, 0),
-            hook_at(log, 1),
-            hook_at(log, 2),
-            hook_at(log, 3),
-            hook_at(log, 4),
-            hook_at(log, 5),
-        ],
-    })
-}
-
-fn defaults() -> Defaults {
-    Defaults::new(Peer {
-        address: Bytes::from_static(b"h"),
-        tls: false,
-        allows_h1: true,
-    })
-}
-
 /// An error that may be tried again where its link had been used before.
 fn stale() -> Error {
     let mut error = Error::new_up(ErrorType::ReadError);
@@ -123,47 +103,45 @@ fn stale() -> Error {
 }
 
 #[test]
-fn treats_the_error_of_a_used_link(rt: HostRuntime) -> Checked {
+fn treats_the_error_of_a_used_link(rt: HostRuntime) {
     let mut treated = stale();
     treated.set_retry(true);
-    let came = Came {
-        told: Told {
-            treated,
-            is_line: Some(true),
-        },
-        hooks: [
-            Some(Hook::UpstreamPeer),
-            Some(Hook::ConnectedToUpstream),
-            Some(Hook::UpstreamRequestFilter),
-            Some(Hook::ErrorWhileProxy),
-            Some(Hook::SuppressProxyWarnLog),
-            Some(Hook::RequestSummary),
-        ],
+    let told = Told {
+        treated,
+        is_line: Some(true),
     };
-    assert_eq!(rt; tried(defaults(), rt.alloc(), stale(), true), Ok(came));
-    Ok(())
+    let hooks = [
+        Some(Hook::UpstreamPeer),
+        Some(Hook::ConnectedToUpstream),
+        Some(Hook::UpstreamRequestFilter),
+        Some(Hook::ErrorWhileProxy),
+        Some(Hook::SuppressProxyWarnLog),
+        Some(Hook::RequestSummary),
+    ];
+    expect(
+        &rt,
+        tried(defaults(), rt.alloc(), stale(), true),
+        Ok((told, hooks)),
+    );
 }
 
 #[test]
-fn treats_a_refusal_and_hides_it(rt: HostRuntime) -> Checked {
+fn treats_a_refusal_and_hides_it(rt: HostRuntime) {
     let alloc = rt.alloc();
-    let app = app_of(alloc, Hook::SuppressProxyWarnLog, Action::Say(true))?;
-    let mut error = Error::new_up(ErrorType::ConnectError);
-    error.set_retry(true);
-    let came = Came {
-        told: Told {
-            treated: error,
-            is_line: None,
-        },
-        hooks: [
-            Some(Hook::UpstreamPeer),
-            Some(Hook::FailToConnect),
-            Some(Hook::SuppressProxyWarnLog),
-            None,
-            None,
-            None,
-        ],
+    let app = app_of(alloc, Hook::SuppressProxyWarnLog, Action::Say(true));
+    let mut treated = Error::new_up(ErrorType::ConnectError);
+    treated.set_retry(true);
+    let told = Told {
+        treated,
+        is_line: None,
     };
-    assert_eq!(rt; tried(app, alloc, error, false), Ok(came));
-    Ok(())
+    let hooks = [
+        Some(Hook::UpstreamPeer),
+        Some(Hook::FailToConnect),
+        Some(Hook::SuppressProxyWarnLog),
+        None,
+        None,
+        None,
+    ];
+    expect(&rt, tried(app, alloc, treated, false), Ok((told, hooks)));
 }
