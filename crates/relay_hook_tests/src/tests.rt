@@ -11,6 +11,7 @@ mod modules;
 mod openings;
 mod orders;
 mod purgings;
+mod rows;
 mod scripted;
 mod support;
 mod tryings;

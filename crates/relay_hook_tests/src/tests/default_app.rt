@@ -1,74 +1,94 @@
 //! The application that decides nothing: each hook does what the table of defaults says.
 use crate::tests::calls::{self, NOTHING, Told};
+use crate::tests::rows::{self, Came, Deciding, OfBody, OfHead};
 use crate::tests::support::{defaults, expect};
 use relay_hooks::FailToProxy;
-use relay_tasks::{Error, ErrorType};
+use relay_tasks::{Error, ErrorType, Result};
+use std::alloc::Global;
+
+fn decided(alloc: Global, hook: Deciding) -> Result<Came> {
+    rows::decided(defaults(), alloc, hook)
+}
 
 #[test]
 fn lets_each_request_go_on(rt: HostRuntime) {
     let alloc = rt.alloc();
-    expect(&rt, calls::early_request_filter(defaults(), alloc), Ok(()));
     expect(
         &rt,
-        calls::request_filter(defaults(), alloc),
-        Ok((false, 0)),
+        decided(alloc, Deciding::EarlyRequestFilter),
+        Ok(Came::Went),
+    );
+    let asked = decided(alloc, Deciding::RequestFilter);
+    expect(&rt, asked, Ok(Came::Queued(false, 0)));
+    let asked = decided(alloc, Deciding::ProxyUpstreamFilter);
+    expect(&rt, asked, Ok(Came::Queued(true, 0)));
+    expect(
+        &rt,
+        decided(alloc, Deciding::UpstreamPeer),
+        Ok(Came::Says(true)),
     );
     expect(
         &rt,
-        calls::proxy_upstream_filter(defaults(), alloc),
-        Ok((true, 0)),
+        decided(alloc, Deciding::ConnectedToUpstream),
+        Ok(Came::Went),
     );
-    expect(&rt, calls::upstream_peer(defaults(), alloc), Ok(true));
-    expect(&rt, calls::connected_to_upstream(defaults(), alloc), Ok(()));
-    expect(&rt, calls::custom_forwarding(defaults(), alloc), Ok((0, 0)));
+    let asked = decided(alloc, Deciding::CustomForwarding);
+    expect(&rt, asked, Ok(Came::Injected(0, 0)));
+}
+
+#[test]
+fn takes_a_client_again(rt: HostRuntime) {
     expect(
         &rt,
-        calls::on_connection_reuse(defaults(), alloc, ()),
+        calls::on_connection_reuse(defaults(), rt.alloc(), ()),
         Ok(0),
     );
 }
 
 #[test]
 fn hides_nothing(rt: HostRuntime) {
-    let alloc = rt.alloc();
     let error = Error::new_up(ErrorType::ReadError);
     expect(
         &rt,
-        calls::answers_of(defaults(), alloc, &error),
+        calls::answers_of(defaults(), rt.alloc(), &error),
         Ok(NOTHING),
     );
+}
+
+#[test]
+fn logs_and_summarizes(rt: HostRuntime) {
+    let alloc = rt.alloc();
+    let error = Error::new_up(ErrorType::ReadError);
     expect(&rt, calls::logging(defaults(), alloc, &error), Ok(0));
     let is_line = calls::request_summary(defaults(), alloc, b"POST /a, Host: ");
     expect(&rt, is_line, Ok(true));
 }
 
+fn head_left(alloc: Global, filter: OfHead) -> Result<Came> {
+    rows::head_left(defaults(), alloc, filter)
+}
+
+/// The head with that status, without Via.
+fn same(status: u16) -> Result<Came> {
+    let via = false;
+    Ok(Came::Head(Told { status, via }))
+}
+
 #[test]
 fn leaves_heads(rt: HostRuntime) {
     let alloc = rt.alloc();
-    let same = Told {
-        status: 204,
-        via: false,
-    };
-    let purged = Told {
-        status: 200,
-        via: false,
-    };
     expect(
         &rt,
-        calls::upstream_request_filter(defaults(), alloc),
-        Ok(false),
+        head_left(alloc, OfHead::UpstreamRequest),
+        Ok(Came::Says(false)),
     );
-    expect(
-        &rt,
-        calls::upstream_response_filter(defaults(), alloc),
-        Ok(same),
-    );
-    expect(&rt, calls::response_filter(defaults(), alloc), Ok(same));
-    expect(
-        &rt,
-        calls::purge_response_filter(defaults(), alloc),
-        Ok(purged),
-    );
+    expect(&rt, head_left(alloc, OfHead::UpstreamResponse), same(204));
+    expect(&rt, head_left(alloc, OfHead::Response), same(204));
+    expect(&rt, head_left(alloc, OfHead::PurgeResponse), same(200));
+}
+
+fn body_left(alloc: Global, filter: OfBody) -> Result<Came> {
+    rows::body_left(defaults(), alloc, filter)
 }
 
 #[test]
@@ -77,39 +97,29 @@ fn leaves_pieces_trailers_and_messages(rt: HostRuntime) {
     let piece = Some(b'h');
     expect(
         &rt,
-        calls::request_body_filter(defaults(), alloc),
-        Ok(piece),
+        body_left(alloc, OfBody::Request),
+        Ok(Came::Left(piece)),
+    );
+    let same = Came::Delayed(None, piece);
+    expect(&rt, body_left(alloc, OfBody::UpstreamResponse), Ok(same));
+    expect(&rt, body_left(alloc, OfBody::Response), Ok(same));
+    expect(
+        &rt,
+        body_left(alloc, OfBody::UpstreamTrailer),
+        Ok(Came::Count(0)),
     );
     expect(
         &rt,
-        calls::upstream_response_body_filter(defaults(), alloc),
-        Ok((None, piece)),
+        body_left(alloc, OfBody::ResponseTrailer),
+        Ok(Came::Says(false)),
     );
+    let message = Came::Left(Some(b'm'));
     expect(
         &rt,
-        calls::response_body_filter(defaults(), alloc),
-        Ok((None, piece)),
+        body_left(alloc, OfBody::DownstreamMessage),
+        Ok(message),
     );
-    expect(
-        &rt,
-        calls::upstream_response_trailer_filter(defaults(), alloc),
-        Ok(0),
-    );
-    expect(
-        &rt,
-        calls::response_trailer_filter(defaults(), alloc),
-        Ok(false),
-    );
-    expect(
-        &rt,
-        calls::downstream_message(defaults(), alloc),
-        Ok(Some(b'm')),
-    );
-    expect(
-        &rt,
-        calls::upstream_message(defaults(), alloc),
-        Ok(Some(b'm')),
-    );
+    expect(&rt, body_left(alloc, OfBody::UpstreamMessage), Ok(message));
 }
 
 #[test]

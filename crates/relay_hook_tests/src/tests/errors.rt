@@ -1,5 +1,5 @@
-//! Errors of every kind and source: how the application that decides nothing marks and answers them,
-//! against values written by hand.
+//! Errors of every kind and source: how the application that decides nothing marks and answers
+//! them, against values written by hand.
 use crate::tests::calls;
 use crate::tests::support::{defaults, expect};
 use http::Method;

@@ -3,7 +3,8 @@
 ghost use Rattle.std.specs.Prelude.{◌≡◌, IsSome};
 ghost use Rattle.relay_session.specs.Reading.{head_of};
 
-use crate::tests::calls::{self, Told};
+use crate::tests::calls::Told;
+use crate::tests::rows::{self, Came, OfModules};
 use crate::tests::support::{defaults, expect, is_written, release};
 use bytes::Bytes;
 use http::Method;
@@ -257,6 +258,10 @@ fn keeps_its_flags(rt: HostRuntime) {
     assert!(rt; kept);
 }
 
+fn entered(alloc: Global, filter: OfModules) -> Result<(Came, usize)> {
+    rows::entered(defaults(), alloc, filter)
+}
+
 #[test]
 fn enters_each_call_of_the_modules_once(rt: HostRuntime) {
     let alloc = rt.alloc();
@@ -264,30 +269,22 @@ fn enters_each_call_of_the_modules_once(rt: HostRuntime) {
         status: 204,
         via: false,
     };
-    let piece = Some(b'h');
+    let piece = Came::Left(Some(b'h'));
+    expect(&rt, entered(alloc, OfModules::RequestBody), Ok((piece, 1)));
     expect(
         &rt,
-        calls::module_request_body(defaults(), alloc),
-        Ok((piece, 1)),
+        entered(alloc, OfModules::ResponseHeader),
+        Ok((Came::Head(same), 1)),
+    );
+    expect(&rt, entered(alloc, OfModules::ResponseBody), Ok((piece, 1)));
+    expect(
+        &rt,
+        entered(alloc, OfModules::ResponseTrailer),
+        Ok((Came::Says(false), 1)),
     );
     expect(
         &rt,
-        calls::module_response_header(defaults(), alloc),
-        Ok((same, 1)),
-    );
-    expect(
-        &rt,
-        calls::module_response_body(defaults(), alloc),
-        Ok((piece, 1)),
-    );
-    expect(
-        &rt,
-        calls::module_response_trailer(defaults(), alloc),
-        Ok((false, 1)),
-    );
-    expect(
-        &rt,
-        calls::module_response_done(defaults(), alloc),
-        Ok((false, 1)),
+        entered(alloc, OfModules::ResponseDone),
+        Ok((Came::Says(false), 1)),
     );
 }

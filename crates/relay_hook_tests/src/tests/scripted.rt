@@ -1,5 +1,6 @@
 //! The application of a script, with one rule each.
 use crate::tests::calls::{self, Answers, NOTHING, Told};
+use crate::tests::rows::{self, Came, Deciding, OfBody, OfHead};
 use crate::tests::support::{expect, peer};
 use bytes::Bytes;
 use http_header::{HeaderValue, VIA};
@@ -7,6 +8,7 @@ use relay_script::{Action, CheckedRules, Rule};
 use relay_scripted::ScriptProxy;
 use relay_tasks::{Error, ErrorType, Fail, Hook, MessageList, Result, RetryType};
 use std::alloc::{AllocError, Global};
+use std::process::Abort;
 
 /// The application with that rule alone.
 pub(crate) fn app_of(alloc: Global, hook: Hook, action: Action) -> Result<ScriptProxy> {
@@ -41,19 +43,47 @@ fn refused() -> Fail {
     Fail::Error(Error::new(ErrorType::Custom(7)))
 }
 
+fn decided(app: Result<ScriptProxy>, alloc: Global, hook: Deciding) -> Result<Came> {
+    rows::decided(app, alloc, hook)
+}
+
+fn head_left(app: Result<ScriptProxy>, alloc: Global, filter: OfHead) -> Result<Came> {
+    rows::head_left(app, alloc, filter)
+}
+
+fn body_left(app: Result<ScriptProxy>, alloc: Global, filter: OfBody) -> Result<Came> {
+    rows::body_left(app, alloc, filter)
+}
+
+/// Asserts that the call fails where that hook fails.
+fn expect_failed(rt: &impl Abort, alloc: Global, fails: Hook, hook: Deciding) {
+    expect(
+        rt,
+        decided(failing(alloc, fails), alloc, hook),
+        Err(refused()),
+    );
+}
+
 #[test]
 fn fails_before_the_request_goes_on(rt: HostRuntime) {
     let alloc = rt.alloc();
-    let app = failing(alloc, Hook::InitDownstreamModules);
-    expect(&rt, calls::early_request_filter(app, alloc), Err(refused()));
-    let app = failing(alloc, Hook::EarlyRequestFilter);
-    expect(&rt, calls::early_request_filter(app, alloc), Err(refused()));
-    let app = failing(alloc, Hook::UpstreamPeer);
-    expect(&rt, calls::upstream_peer(app, alloc), Err(refused()));
-    let app = failing(alloc, Hook::ConnectedToUpstream);
-    expect(
+    let early = Deciding::EarlyRequestFilter;
+    expect_failed(&rt, alloc, Hook::InitDownstreamModules, early);
+    expect_failed(&rt, alloc, Hook::EarlyRequestFilter, early);
+    expect_failed(&rt, alloc, Hook::UpstreamPeer, Deciding::UpstreamPeer);
+    expect_failed(
         &rt,
-        calls::connected_to_upstream(app, alloc),
+        alloc,
+        Hook::ConnectedToUpstream,
+        Deciding::ConnectedToUpstream,
+    );
+}
+
+/// The same of a filter.
+fn expect_stopped(rt: &impl Abort, alloc: Global, fails: Hook, filter: OfBody) {
+    expect(
+        rt,
+        body_left(failing(alloc, fails), alloc, filter),
         Err(refused()),
     );
 }
@@ -61,22 +91,18 @@ fn fails_before_the_request_goes_on(rt: HostRuntime) {
 #[test]
 fn fails_behind_it(rt: HostRuntime) {
     let alloc = rt.alloc();
-    let app = failing(alloc, Hook::UpstreamResponseTrailerFilter);
-    expect(
+    let hook = Hook::UpstreamResponseTrailerFilter;
+    expect_stopped(&rt, alloc, hook, OfBody::UpstreamTrailer);
+    expect_stopped(
         &rt,
-        calls::upstream_response_trailer_filter(app, alloc),
-        Err(refused()),
+        alloc,
+        Hook::ResponseTrailerFilter,
+        OfBody::ResponseTrailer,
     );
-    let app = failing(alloc, Hook::ResponseTrailerFilter);
-    expect(
-        &rt,
-        calls::response_trailer_filter(app, alloc),
-        Err(refused()),
-    );
-    let app = failing(alloc, Hook::DownstreamCustomMessageProxyFilter);
-    expect(&rt, calls::downstream_message(app, alloc), Err(refused()));
-    let app = failing(alloc, Hook::UpstreamCustomMessageProxyFilter);
-    expect(&rt, calls::upstream_message(app, alloc), Err(refused()));
+    let hook = Hook::DownstreamCustomMessageProxyFilter;
+    expect_stopped(&rt, alloc, hook, OfBody::DownstreamMessage);
+    let hook = Hook::UpstreamCustomMessageProxyFilter;
+    expect_stopped(&rt, alloc, hook, OfBody::UpstreamMessage);
 }
 
 /// What the application says whose hook has that rule.
@@ -119,43 +145,40 @@ fn answers_the_client(rt: HostRuntime) {
         say: true,
     };
     let app = app_of(alloc, Hook::RequestFilter, yes);
-    expect(&rt, calls::request_filter(app, alloc), Ok((true, 1)));
+    let asked = decided(app, alloc, Deciding::RequestFilter);
+    expect(&rt, asked, Ok(Came::Queued(true, 1)));
     let no = Action::Answer {
         code: 503,
         say: false,
     };
     let app = app_of(alloc, Hook::ProxyUpstreamFilter, no);
-    expect(
-        &rt,
-        calls::proxy_upstream_filter(app, alloc),
-        Ok((false, 1)),
-    );
+    let asked = decided(app, alloc, Deciding::ProxyUpstreamFilter);
+    expect(&rt, asked, Ok(Came::Queued(false, 1)));
 }
 
 /// A head with that status, to which Via was set where that is so.
-fn told(status: u16, via: bool) -> Result<Told> {
-    Ok(Told { status, via })
+fn told(status: u16, via: bool) -> Result<Came> {
+    Ok(Came::Head(Told { status, via }))
 }
 
 #[test]
 fn changes_heads(rt: HostRuntime) {
     let alloc = rt.alloc();
     let app = setting(alloc, Hook::UpstreamRequestFilter);
-    expect(&rt, calls::upstream_request_filter(app, alloc), Ok(true));
+    let left = head_left(app, alloc, OfHead::UpstreamRequest);
+    expect(&rt, left, Ok(Came::Says(true)));
     let app = setting(alloc, Hook::ResponseFilter);
-    expect(&rt, calls::response_filter(app, alloc), told(204, true));
+    expect(
+        &rt,
+        head_left(app, alloc, OfHead::Response),
+        told(204, true),
+    );
     let app = app_of(alloc, Hook::UpstreamResponseFilter, Action::Status(206));
-    expect(
-        &rt,
-        calls::upstream_response_filter(app, alloc),
-        told(206, false),
-    );
+    let left = head_left(app, alloc, OfHead::UpstreamResponse);
+    expect(&rt, left, told(206, false));
     let app = setting(alloc, Hook::PurgeResponseFilter);
-    expect(
-        &rt,
-        calls::purge_response_filter(app, alloc),
-        told(200, true),
-    );
+    let left = head_left(app, alloc, OfHead::PurgeResponse);
+    expect(&rt, left, told(200, true));
 }
 
 #[test]
@@ -163,16 +186,17 @@ fn changes_pieces(rt: HostRuntime) {
     let alloc = rt.alloc();
     let text = Action::Text(Bytes::from_static(b"no"));
     let app = app_of(alloc, Hook::UpstreamResponseBodyFilter, text);
-    let changed = calls::upstream_response_body_filter(app, alloc);
-    expect(&rt, changed, Ok((None, Some(b'n'))));
+    let left = body_left(app, alloc, OfBody::UpstreamResponse);
+    expect(&rt, left, Ok(Came::Delayed(None, Some(b'n'))));
     let app = app_of(alloc, Hook::ResponseBodyFilter, Action::Drop);
+    let left = body_left(app, alloc, OfBody::Response);
+    expect(&rt, left, Ok(Came::Delayed(None, None)));
+    let app = app_of(alloc, Hook::RequestBodyFilter, Action::Drop);
     expect(
         &rt,
-        calls::response_body_filter(app, alloc),
-        Ok((None, None)),
+        body_left(app, alloc, OfBody::Request),
+        Ok(Came::Left(None)),
     );
-    let app = app_of(alloc, Hook::RequestBodyFilter, Action::Drop);
-    expect(&rt, calls::request_body_filter(app, alloc), Ok(None));
 }
 
 /// The application that puts one message in front of those to the upstream.
