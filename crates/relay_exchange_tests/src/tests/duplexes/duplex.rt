@@ -4,8 +4,7 @@ use super::upstream::serving;
 use relay_core::*;
 use relay_links::{RoundRobin, Schedule};
 use relay_tasks::{Error, ErrorType, Fail};
-use std::alloc::Global;
-use std::test::Fail as TestFail;
+use std::alloc::{AllocError, Global};
 
 /// Takes as many steps by that schedule, and answers as the last.
 fn run<C, D: Down<C>, U: Up, H: Schedule>(
@@ -41,46 +40,37 @@ fn has_failed(duplex: &Duplex) -> bool {
     duplex.state() == PipeState::Failed && !duplex.upstream_may_keep()
 }
 
-#[test]
-fn an_upload_and_a_download_run_to_their_end(rt: HostRuntime) -> std::result::Result<(), TestFail> {
-    let alloc = rt.alloc();
-    let mut down = sending(alloc, vec![in alloc; "c", "", "b", "a"]?, None);
-    let mut up = serving(alloc, vec![in alloc; "y", "x"]?, None);
+/// Whether an upload and a download run to their end: the upstream got three pieces and the end,
+/// and not the empty piece.
+fn runs_to_its_end(alloc: Global) -> std::result::Result<bool, AllocError> {
+    let sent = vec![in alloc; "c", "", "b", "a"]?;
+    let served = vec![in alloc; "y", "x"]?;
+    let mut down = sending(alloc, sent, None);
+    let mut up = serving(alloc, served, None);
     let mut duplex = begun(alloc);
-    run(
-        &mut duplex,
-        &mut (),
-        &mut down,
-        &mut up,
-        &mut RoundRobin::new(),
-        100,
-    );
-    assert!(rt; ended_well(&duplex));
-    assert_eq!(rt;
-        up.got.len(),
-        4,
-        "three pieces and the end, and not the empty one"
-    );
-    Ok(())
+    let mut schedule = RoundRobin::new();
+    run(&mut duplex, &mut (), &mut down, &mut up, &mut schedule, 100);
+    Ok(ended_well(&duplex) && up.got.len() == 4)
 }
 
 #[test]
-fn a_client_that_breaks_off_fails_the_step(rt: HostRuntime) -> std::result::Result<(), TestFail> {
-    let alloc = rt.alloc();
-    let closed = Error::new_down(ErrorType::ConnectionClosed);
-    let mut down = sending(alloc, vec![in alloc; "a"]?, Some(closed));
-    let mut up = serving(alloc, vec![in alloc]?, None);
+fn an_upload_and_a_download_run_to_their_end(rt: HostRuntime) {
+    assert!(rt; runs_to_its_end(rt.alloc()) == Ok(true));
+}
+
+/// Whether a client that breaks off with that error fails the step with it, and puts no end.
+fn fails(alloc: Global, closed: Error) -> std::result::Result<bool, AllocError> {
+    let sent = vec![in alloc; "a"]?;
+    let mut down = sending(alloc, sent, Some(closed));
+    let mut up = serving(alloc, Vec::new(alloc), None);
     let mut duplex = begun(alloc);
-    let last = run(
-        &mut duplex,
-        &mut (),
-        &mut down,
-        &mut up,
-        &mut RoundRobin::new(),
-        100,
-    );
-    assert_eq!(rt; last, Step::Failed(Fail::Error(closed)));
-    assert!(rt; has_failed(&duplex));
-    assert_eq!(rt; down.put.len(), 1, "no end is put");
-    Ok(())
+    let mut schedule = RoundRobin::new();
+    let last = run(&mut duplex, &mut (), &mut down, &mut up, &mut schedule, 100);
+    Ok(last == Step::Failed(Fail::Error(closed)) && has_failed(&duplex) && down.put.len() == 1)
+}
+
+#[test]
+fn a_client_that_breaks_off_fails_the_step(rt: HostRuntime) {
+    let closed = Error::new_down(ErrorType::ConnectionClosed);
+    assert!(rt; fails(rt.alloc(), closed) == Ok(true));
 }

@@ -1,49 +1,66 @@
 use relay_core::*;
 use relay_tasks::HttpTask;
-use std::test::Fail;
 
-#[test]
-fn a_pipe_hands_the_fifth_task_back(rt: HostRuntime) -> Result<(), Fail> {
+/// Whether a pipe of four tasks hands a fifth back, and takes it once one was taken out.
+fn hands_back() -> bool {
     let mut pipe = Pipe::new();
     for _ in 0..4 {
-        assert!(rt; pipe.put(HttpTask::Done).is_ok());
+        if pipe.put(HttpTask::Done).is_err() {
+            return false;
+        }
     }
-    let back = pipe
-        .put(HttpTask::Trailer(None))
-        .err()
-        .ok_or("the fifth was taken")?;
-    assert_eq!(rt; back.type_str(), "Trailer");
-    assert!(rt; pipe.take().is_some());
-    assert!(rt; pipe.put(back).is_ok());
-    assert_eq!(rt; pipe.len(), 4);
-    Ok(())
+    let Err(back) = pipe.put(HttpTask::Trailer(None)) else {
+        return false;
+    };
+    back.type_str() == "Trailer"
+        && pipe.take().is_some()
+        && pipe.put(back).is_ok()
+        && pipe.len() == 4
+}
+
+#[test]
+fn a_pipe_hands_the_fifth_task_back(rt: HostRuntime) {
+    assert!(rt; hands_back());
+}
+
+/// Whether a request ends, and opens again.
+fn ends_and_opens() -> bool {
+    let mut request = DownstreamStateMachine::new(false);
+    request.maybe_finished(false);
+    let is_open = request.is_reading();
+    request.maybe_finished(true);
+    let is_ended = request.is_done();
+    request.reset();
+    is_open && is_ended && request.is_reading()
+}
+
+/// Whether the request of a client that failed stays so.
+fn stays_failed() -> bool {
+    let mut request = DownstreamStateMachine::new(false);
+    request.to_errored();
+    request.reset();
+    request.maybe_finished(true);
+    request.is_errored() && !request.can_poll()
 }
 
 #[test]
 fn a_request_ends_and_opens_again_unless_the_client_failed(rt: HostRuntime) {
-    let mut request = DownstreamStateMachine::new(false);
-    request.maybe_finished(false);
-    assert!(rt; request.is_reading());
-    request.maybe_finished(true);
-    assert!(rt; request.is_done());
-    request.reset();
-    assert!(rt; request.is_reading());
-    request.to_errored();
-    request.reset();
-    request.maybe_finished(true);
-    assert!(rt; request.is_errored());
-    assert!(rt; !request.can_poll());
+    assert!(rt; ends_and_opens());
+    assert!(rt; stays_failed());
+}
+
+/// Whether a response with a cached one is done only behind both.
+fn waits_for_both() -> bool {
+    let mut response = ResponseStateMachine::new();
+    response.enable_cached_response();
+    response.maybe_set_upstream_done(true);
+    let is_open = response.upstream_done() && !response.cached_done() && !response.is_done();
+    response.maybe_set_cache_done(true);
+    response.maybe_set_cache_done(false);
+    is_open && response.is_done()
 }
 
 #[test]
 fn a_response_waits_for_upstream_and_cache(rt: HostRuntime) {
-    let mut response = ResponseStateMachine::new();
-    response.enable_cached_response();
-    response.maybe_set_upstream_done(true);
-    assert!(rt; response.upstream_done());
-    assert!(rt; !response.cached_done());
-    assert!(rt; !response.is_done());
-    response.maybe_set_cache_done(true);
-    response.maybe_set_cache_done(false);
-    assert!(rt; response.is_done());
+    assert!(rt; waits_for_both());
 }

@@ -6,35 +6,37 @@ use relay_links::{ReadItem, ScriptLink};
 use relay_session::HttpSession;
 use relay_tasks::{Result, Took};
 use std::alloc::{AllocError, Global};
-use std::test::Fail as Failed;
-
-type Checked = std::result::Result<(), Failed>;
 
 type Client = Connection<ScriptLink, ()>;
 
 /// The bytes of a body from that place on, so many. Each tells its place.
-fn part(alloc: Global, from: usize, len: usize) -> std::result::Result<Vec<u8>, AllocError> {
+fn part(alloc: Global, from: usize, len: usize) -> Result<Bytes> {
     let mut bytes = Vec::new(alloc);
     for place in from..from.saturating_add(len) {
-        bytes.push((place % 251) as u8)?;
+        bytes.push((place % 251) as u8).map_err(AllocError::from)?;
     }
-    Ok(bytes)
+    Ok(Bytes::from_vec(bytes).map_err(AllocError::from)?)
 }
 
-/// A client that puts a body, and sends it in parts of these lengths, the first one with the head.
-/// One read gives bytes of one part, 16,384 at most.
-fn client(alloc: Global, parts: [usize; 3]) -> std::result::Result<Client, AllocError> {
-    let [first, second, third] = parts;
-    let both = first.saturating_add(second);
-    let len = both.saturating_add(third);
+/// The head of a request whose body has that length.
+fn head(alloc: Global, len: usize) -> Result<Bytes> {
     let head = format!(in alloc; "PUT / HTTP/1.1\r\nHost: h\r\nContent-Length: {len}\r\n\r\n")?;
-    let mut text = Vec::from_slice(alloc, head.as_bytes())?;
-    text.extend_from_slice(&part(alloc, 0, first)?)?;
-    let items = vec![in alloc;
-        ReadItem::Bytes(Bytes::copy_from_slice(alloc, &text)?),
-        ReadItem::Bytes(Bytes::copy_from_slice(alloc, &part(alloc, first, second)?)?),
-        ReadItem::Bytes(Bytes::copy_from_slice(alloc, &part(alloc, both, third)?)?),
-    ]?;
+    Ok(Bytes::copy_from_slice(alloc, head.as_bytes())?)
+}
+
+/// A client that puts a body, and sends it in two parts of these lengths behind its head. One read
+/// gives bytes of one part, 16,384 at most.
+fn client(alloc: Global, first: usize, second: usize) -> Result<Client> {
+    let mut items = Vec::new(alloc);
+    items
+        .push(ReadItem::Bytes(head(alloc, first.saturating_add(second))?))
+        .map_err(AllocError::from)?;
+    items
+        .push(ReadItem::Bytes(part(alloc, 0, first)?))
+        .map_err(AllocError::from)?;
+    items
+        .push(ReadItem::Bytes(part(alloc, first, second)?))
+        .map_err(AllocError::from)?;
     Ok(Connection::new(alloc, ScriptLink::new(alloc, items, Vec::new(alloc))))
 }
 
@@ -44,104 +46,121 @@ fn reads(alloc: Global, session: &mut HttpSession, client: &mut Client, pieces: 
         return false;
     }
     for _ in 0..pieces {
-        if !session.has_head() {
-            return false;
-        }
-        let took = session.read_body_or_idle(alloc, client, false);
-        if !matches!(took, Took::Item(_)) {
+        if !session.has_head()
+            || !matches!(
+                session.read_body_or_idle(alloc, client, false),
+                Took::Item(_)
+            )
+        {
             return false;
         }
     }
     true
 }
 
+/// How many bytes these are, where they are the first of the body; none where they are others.
+fn first_bytes(alloc: Global, bytes: &Bytes) -> Result<Option<usize>> {
+    let len = bytes.len();
+    if len > 0 && part(alloc, 0, len)?.as_slice() == bytes.as_slice() {
+        return Ok(Some(len));
+    }
+    Ok(None)
+}
+
 /// How many bytes are kept, which are the first of the body; none where they are others.
 fn kept(alloc: Global, session: &HttpSession) -> Result<Option<usize>> {
-    let Some(bytes) = session.get_retry_buffer(alloc)? else {
-        return Ok(Some(0));
-    };
-    let want = part(alloc, 0, bytes.len())?;
-    if bytes.is_empty() || bytes.as_slice() != want.as_slice() {
-        return Ok(None);
+    match session.get_retry_buffer(alloc)? {
+        Some(bytes) => first_bytes(alloc, &bytes),
+        None => Ok(Some(0)),
     }
-    Ok(Some(bytes.len()))
 }
 
-/// How many bytes a session has kept, whether it is truncated, and whether another attempt may
-/// begin with it.
-type Kept = (Option<usize>, bool, bool);
-
-/// What that is where so many are kept.
-fn holds(len: usize) -> Option<Kept> {
-    Some((Some(len), false, true))
+/// Whether the session has kept so many bytes, and another attempt may begin with it.
+fn holds(alloc: Global, session: &HttpSession, len: usize) -> bool {
+    kept(alloc, session) == Ok(Some(len))
+        && !session.retry_buffer_truncated()
+        && session.may_begin_again()
 }
 
-/// What it is where they are more than are kept.
-fn truncated() -> Option<Kept> {
-    Some((Some(0), true, false))
+/// Whether the session has kept nothing of more bytes than are kept.
+fn is_truncated(alloc: Global, session: &HttpSession) -> bool {
+    kept(alloc, session) == Ok(Some(0))
+        && session.retry_buffer_truncated()
+        && !session.may_begin_again()
 }
 
-/// What a session answers.
-fn answers(alloc: Global, session: &HttpSession) -> Result<Kept> {
-    Ok((
-        kept(alloc, session)?,
-        session.retry_buffer_truncated(),
-        session.may_begin_again(),
-    ))
+/// A body in two parts, of which so many pieces are read, and how many bytes of it are kept; none
+/// where it is truncated.
+#[derive(Clone, Copy, Drop)]
+struct Upload {
+    first: usize,
+    second: usize,
+    pieces: usize,
+    kept: Option<usize>,
 }
 
-/// What it is once so many pieces came of a body in these parts; none where they did not.
-fn kept_after(alloc: Global, parts: [usize; 3], pieces: usize) -> Result<Option<Kept>> {
-    let mut client = client(alloc, parts)?;
+/// Whether that is kept.
+fn keeps(alloc: Global, upload: Upload) -> Result<bool> {
+    let mut client = client(alloc, upload.first, upload.second)?;
     let mut session = HttpSession::new_http1(alloc);
-    if !reads(alloc, &mut session, &mut client, pieces) {
-        return Ok(None);
+    if !reads(alloc, &mut session, &mut client, upload.pieces) {
+        return Ok(false);
     }
-    Ok(Some(answers(alloc, &session)?))
-}
-
-#[test]
-fn keeps_each_piece_that_came(rt: HostRuntime) -> Checked {
-    let alloc = rt.alloc();
-    for (pieces, len) in [(0, 0), (1, 2), (2, 5), (3, 6)] {
-        assert_eq!(rt;
-            kept_after(alloc, [2, 3, 1], pieces)?,
-            holds(len),
-            "after {pieces}"
-        );
+    match upload.kept {
+        Some(len) => Ok(holds(alloc, &session, len)),
+        None => Ok(is_truncated(alloc, &session)),
     }
-    // a body of no bytes
-    assert_eq!(rt; kept_after(alloc, [0, 0, 0], 0)?, holds(0));
-    Ok(())
+}
+
+/// Whether so many bytes are kept of a body in two such parts, behind so many pieces.
+fn are_kept(alloc: Global, first: usize, second: usize, pieces: usize, len: usize) -> bool {
+    let kept = Some(len);
+    keeps(
+        alloc,
+        Upload {
+            first,
+            second,
+            pieces,
+            kept,
+        },
+    ) == Ok(true)
+}
+
+/// Whether none are kept of it, as they are too many.
+fn are_too_many(alloc: Global, first: usize, second: usize, pieces: usize) -> bool {
+    let kept = None;
+    keeps(
+        alloc,
+        Upload {
+            first,
+            second,
+            pieces,
+            kept,
+        },
+    ) == Ok(true)
 }
 
 #[test]
-fn keeps_65536_bytes(rt: HostRuntime) -> Checked {
-    let alloc = rt.alloc();
-    // four pieces of 16,384; and pieces the last of which completes as many
-    assert_eq!(rt; kept_after(alloc, [0, 65_536, 0], 4)?, holds(65_536));
-    assert_eq!(rt; kept_after(alloc, [0, 65_535, 1], 4)?, holds(65_535));
-    assert_eq!(rt; kept_after(alloc, [0, 65_535, 1], 5)?, holds(65_536));
-    assert_eq!(rt; kept_after(alloc, [100, 65_436, 0], 5)?, holds(65_536));
-    Ok(())
+fn keeps_each_piece_that_came(rt: HostRuntime) {
+    assert!(rt; are_kept(rt.alloc(), 2, 3, 0, 0));
+    assert!(rt; are_kept(rt.alloc(), 2, 3, 1, 2));
+    assert!(rt; are_kept(rt.alloc(), 2, 3, 2, 5));
 }
 
 #[test]
-fn keeps_nothing_of_65537_bytes(rt: HostRuntime) -> Checked {
-    let alloc = rt.alloc();
+fn keeps_65536_bytes(rt: HostRuntime) {
+    // pieces of 16,384, the last of which completes as many
+    assert!(rt; are_kept(rt.alloc(), 65_535, 1, 4, 65_535));
+    assert!(rt; are_kept(rt.alloc(), 65_535, 1, 5, 65_536));
+    assert!(rt; are_kept(rt.alloc(), 100, 65_436, 5, 65_536));
+}
+
+#[test]
+fn keeps_nothing_of_65537_bytes(rt: HostRuntime) {
     // they are kept until the piece that passes the limit, whatever its length
-    assert_eq!(rt; kept_after(alloc, [0, 65_536, 1], 4)?, holds(65_536));
-    assert_eq!(rt; kept_after(alloc, [0, 65_536, 1], 5)?, truncated());
-    assert_eq!(rt; kept_after(alloc, [100, 65_437, 0], 4)?, holds(49_252));
-    assert_eq!(rt; kept_after(alloc, [100, 65_437, 0], 5)?, truncated());
+    assert!(rt; are_kept(rt.alloc(), 65_536, 1, 4, 65_536));
+    assert!(rt; are_too_many(rt.alloc(), 65_536, 1, 5));
+    assert!(rt; are_too_many(rt.alloc(), 100, 65_437, 5));
     // and what comes behind it is not kept either
-    assert_eq!(rt; kept_after(alloc, [0, 65_537, 1], 6)?, truncated());
-    Ok(())
-}
-
-#[test]
-fn begins_no_attempt_without_a_head(rt: HostRuntime) -> Checked {
-    let session = HttpSession::new_http1(rt.alloc());
-    assert_eq!(rt; answers(rt.alloc(), &session)?, (Some(0), false, false));
-    Ok(())
+    assert!(rt; are_too_many(rt.alloc(), 65_537, 1, 6));
 }

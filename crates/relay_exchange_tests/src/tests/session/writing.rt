@@ -1,16 +1,13 @@
+//! Responses that are queued without a session.
+use super::super::scripts::{has_taken, link};
 use bytes::Bytes;
 use http::Version;
-use http_header::{CONNECTION, CONTENT_LENGTH, HeaderName, HeaderValue, TRANSFER_ENCODING};
+use http_header::{CONTENT_LENGTH, HeaderName, HeaderValue, TRANSFER_ENCODING};
 use relay_h1::Connection;
-use relay_links::{Put, ScriptLink, WriteItem};
+use relay_links::{Put, ScriptLink};
 use relay_session::{Asks, Request, Writing};
-use relay_tasks::{Fail, HttpTask, ResponseHeader, TaskList};
+use relay_tasks::{HttpTask, ResponseHeader, Result, TaskList};
 use std::alloc::Global;
-use std::process::Abort;
-use std::str;
-use std::test::Fail as Failed;
-
-type Checked = std::result::Result<(), Failed>;
 
 /// The response to a request of that method and version.
 fn response(alloc: Global, method: Asks, version: Version) -> Writing {
@@ -23,185 +20,143 @@ fn response(alloc: Global, method: Asks, version: Version) -> Writing {
     Writing::new(alloc, request)
 }
 
-/// A head with that status and one field.
-fn head(
-    alloc: Global,
-    status: u16,
-    name: HeaderName,
-    value: &'static [u8],
-) -> relay_tasks::Result<ResponseHeader> {
-    let mut head = ResponseHeader::build(alloc, status)?;
-    let value = HeaderValue::from_bytes(alloc, value).map_err(|_| Fail::OutOfMemory)?;
-    head.insert_header(name, value)?;
+/// A final head with one field.
+fn head(alloc: Global, name: HeaderName, value: &'static str) -> Result<ResponseHeader> {
+    let mut head = ResponseHeader::build(alloc, 200)?;
+    head.insert_header(name, HeaderValue::from_static(value))?;
     Ok(head)
 }
 
-/// What a link that takes all has taken of what waits.
-fn expect_written(rt: &impl Abort, alloc: Global, writing: &mut Writing, want: &str) -> Checked {
-    let write = vec![in alloc; WriteItem::Take(1000)]?;
-    let link = ScriptLink::new(alloc, Vec::new(alloc), write);
-    let mut client: Connection<ScriptLink, u8> = Connection::new(alloc, link);
-    if writing.has_pending() {
-        assert_eq!(rt; writing.write_pending(&mut client), Put::Took(want.len()));
+/// Whether a link that takes all takes just that of what waits.
+fn writes(alloc: Global, writing: &mut Writing, want: &str) -> Result<bool> {
+    let mut client: Connection<ScriptLink, u8> = Connection::new(alloc, link(alloc, &[])?);
+    if !writing.has_pending() {
+        return Ok(false);
     }
-    assert_eq!(rt; str::from_utf8(client.link().taken()), Ok(want));
-    assert!(rt; !writing.has_pending());
-    Ok(())
+    let put = writing.write_pending(&mut client);
+    Ok(put == Put::Took(want.len()) && !writing.has_pending() && has_taken(client.link(), want))
+}
+
+/// Adds a head with that status, of chunks where it is a final one.
+fn push_head(alloc: Global, tasks: &mut TaskList, status: u16) -> Result<()> {
+    let mut head = ResponseHeader::build(alloc, status)?;
+    if status == 200 {
+        head.insert_header(TRANSFER_ENCODING, HeaderValue::from_static("chunked"))?;
+    }
+    tasks.push(HttpTask::Header(head, false))
+}
+
+/// Adds a piece that ends nothing.
+fn push_piece(tasks: &mut TaskList, bytes: &'static [u8]) -> Result<()> {
+    tasks.push(HttpTask::Body(Some(Bytes::from_static(bytes)), false))
+}
+
+/// Adds what follows the piece of the response: it gives nothing but the end.
+fn push_rest(alloc: Global, tasks: &mut TaskList) -> Result<()> {
+    push_piece(tasks, b"")?;
+    push_head(alloc, tasks, 500)?;
+    tasks.push(HttpTask::UpgradedBody(None, false))?;
+    tasks.push(HttpTask::Trailer(None))?;
+    push_piece(tasks, b"late")?;
+    tasks.push(HttpTask::Done)
 }
 
 /// The tasks of a response in chunks, behind an informational head, with what gives nothing.
-fn chunked_tasks(alloc: Global) -> relay_tasks::Result<TaskList> {
+fn chunked_tasks(alloc: Global) -> Result<TaskList> {
     let mut tasks = TaskList::new(alloc);
-    tasks.push(HttpTask::Header(ResponseHeader::build(alloc, 103)?, false))?;
-    let last = head(alloc, 200, TRANSFER_ENCODING, b"chunked")?;
-    tasks.push(HttpTask::Header(last, false))?;
-    tasks.push(HttpTask::Body(Some(Bytes::from_static(b"hello")), false))?;
-    tasks.push(HttpTask::Body(Some(Bytes::from_static(b"")), false))?;
-    tasks.push(HttpTask::Header(ResponseHeader::build(alloc, 500)?, false))?;
-    tasks.push(HttpTask::UpgradedBody(None, false))?;
-    tasks.push(HttpTask::Trailer(None))?;
-    tasks.push(HttpTask::Body(Some(Bytes::from_static(b"late")), false))?;
-    tasks.push(HttpTask::Done)?;
+    push_head(alloc, &mut tasks, 103)?;
+    push_head(alloc, &mut tasks, 200)?;
+    push_piece(&mut tasks, b"hello")?;
+    push_rest(alloc, &mut tasks)?;
     Ok(tasks)
 }
 
+/// Whether they are written so.
+fn writes_chunks(alloc: Global) -> Result<bool> {
+    let mut writing = response(alloc, Asks::Other, Version::HTTP_11);
+    let ends = writing.response_duplex_vec(chunked_tasks(alloc)?)?;
+    let want =
+        "HTTP/1.1 103 Early Hints\r\n\r\nHTTP/1.1 200 OK\r\ntransfer-encoding: chunked\r\n\r\n\
+        5\r\nhello\r\n0\r\n\r\n";
+    Ok(ends && writing.body_bytes_sent() == 5 && writes(alloc, &mut writing, want)?)
+}
+
 #[test]
-fn writes_a_response_in_chunks(rt: HostRuntime) -> Checked {
-    let mut writing = response(rt.alloc(), Asks::Other, Version::HTTP_11);
-    let tasks = chunked_tasks(rt.alloc())?;
-    assert_eq!(rt; writing.response_duplex_vec(tasks), Ok(true));
-    assert_eq!(rt; writing.body_bytes_sent(), 5);
-    expect_written(
-        &rt,
-        rt.alloc(),
-        &mut writing,
-        "HTTP/1.1 103 Early Hints\r\n\r\nHTTP/1.1 200 OK\r\ntransfer-encoding: chunked\r\n\r\n5\r\nhello\r\n0\r\n\r\n",
+fn writes_a_response_in_chunks(rt: HostRuntime) {
+    assert!(rt; writes_chunks(rt.alloc()) == Ok(true));
+}
+
+/// Queues a piece of the body; whether the response is done behind it.
+fn ends_with(writing: &mut Writing, piece: &'static [u8], end: bool) -> Result<bool> {
+    writing.write_response_body(Bytes::from_static(piece), end)?;
+    Ok(writing.response_done())
+}
+
+/// Whether a response is written call by call: a piece before its head gives nothing, and one
+/// longer than what is left of the length is cut.
+fn writes_call_by_call(alloc: Global) -> Result<bool> {
+    let mut writing = response(alloc, Asks::Other, Version::HTTP_11);
+    let early = ends_with(&mut writing, b"early", true)? || writing.response_written();
+    writing.write_response_header(head(alloc, CONTENT_LENGTH, "7")?)?;
+    let is_open = writing.response_written() && !ends_with(&mut writing, b"hello", false)?;
+    let ends = ends_with(&mut writing, b"world", false)?;
+    writing.finish_body()?;
+    let want = "HTTP/1.1 200 OK\r\ncontent-length: 7\r\n\r\nhellowo";
+    Ok(
+        !early
+            && is_open
+            && ends
+            && writing.body_bytes_sent() == 7
+            && writes(alloc, &mut writing, want)?,
     )
 }
 
 #[test]
-fn writes_a_response_call_by_call(rt: HostRuntime) -> Checked {
-    let mut writing = response(rt.alloc(), Asks::Other, Version::HTTP_11);
-    assert!(rt; !writing.response_written());
-    assert_eq!(rt;
-        writing.write_response_body(Bytes::from_static(b"early"), true),
-        Ok(())
-    );
-    let given = head(rt.alloc(), 200, CONTENT_LENGTH, b"7")?;
-    assert_eq!(rt; writing.write_response_header(given), Ok(()));
-    assert!(rt; writing.response_written() && !writing.response_done());
-    assert_eq!(rt;
-        writing.write_response_body(Bytes::from_static(b"hello"), false),
-        Ok(())
-    );
-    assert!(rt; !writing.response_done());
-    assert_eq!(rt;
-        writing.write_response_body(Bytes::from_static(b"world"), false),
-        Ok(())
-    );
-    assert!(rt; writing.response_done());
-    assert_eq!(rt; writing.finish_body(), Ok(()));
-    assert_eq!(rt; writing.body_bytes_sent(), 7);
-    expect_written(
-        &rt,
-        rt.alloc(),
-        &mut writing,
-        "HTTP/1.1 200 OK\r\ncontent-length: 7\r\n\r\nhellowo",
-    )
+fn writes_a_response_call_by_call(rt: HostRuntime) {
+    assert!(rt; writes_call_by_call(rt.alloc()) == Ok(true));
 }
 
-/// Whether a response with that field closes its client's connection.
-fn closes(
-    alloc: Global,
-    method: Asks,
-    version: Version,
-    name: HeaderName,
-    value: &'static [u8],
-) -> relay_tasks::Result<bool> {
-    let mut writing = response(alloc, method, version);
-    writing.write_response_header(head(alloc, 200, name, value)?)?;
+/// Whether a response in chunks closes the connection of a client of that version.
+fn closes(alloc: Global, version: Version) -> Result<bool> {
+    let mut writing = response(alloc, Asks::Other, version);
+    writing.write_response_header(head(alloc, TRANSFER_ENCODING, "chunked")?)?;
     Ok(writing.response_closes())
 }
 
 #[test]
-fn tells_which_responses_close_the_connection(rt: HostRuntime) -> Checked {
-    let lasts = closes(
-        rt.alloc(),
-        Asks::Other,
-        Version::HTTP_11,
-        CONTENT_LENGTH,
-        b"2",
-    );
-    assert_eq!(rt; lasts, Ok(false));
-    let chunked = closes(
-        rt.alloc(),
-        Asks::Other,
-        Version::HTTP_11,
-        TRANSFER_ENCODING,
-        b"chunked",
-    );
-    assert_eq!(rt; chunked, Ok(false));
-    let old = closes(
-        rt.alloc(),
-        Asks::Other,
-        Version::HTTP_10,
-        TRANSFER_ENCODING,
-        b"chunked",
-    );
-    assert_eq!(rt; old, Ok(true));
-    let unframed = closes(
-        rt.alloc(),
-        Asks::Other,
-        Version::HTTP_11,
-        CONNECTION,
-        b"keep-alive",
-    );
-    assert_eq!(rt; unframed, Ok(true));
-    let kept = closes(
-        rt.alloc(),
-        Asks::Head,
-        Version::HTTP_11,
-        CONNECTION,
-        b"keep-alive",
-    );
-    assert_eq!(rt; kept, Ok(false));
-    let asked = closes(
-        rt.alloc(),
-        Asks::Head,
-        Version::HTTP_11,
-        CONNECTION,
-        b"x, Close",
-    );
-    assert_eq!(rt; asked, Ok(true));
-    Ok(())
+fn tells_which_responses_close_the_connection(rt: HostRuntime) {
+    assert!(rt; closes(rt.alloc(), Version::HTTP_11) == Ok(false));
+    assert!(rt; closes(rt.alloc(), Version::HTTP_10) == Ok(true));
+}
+
+/// Whether the first of two errors is answered.
+fn answers_first(alloc: Global) -> Result<bool> {
+    let mut writing = response(alloc, Asks::Other, Version::HTTP_11);
+    writing.respond_error(502)?;
+    writing.respond_error(500)?;
+    let want = "HTTP/1.1 502 Bad Gateway\r\nserver: Pingora\r\ncontent-length: 0\r\n\
+        cache-control: private, no-store\r\n\r\n";
+    Ok(writing.response_done() && writes(alloc, &mut writing, want)?)
 }
 
 #[test]
-fn answers_errors(rt: HostRuntime) -> Checked {
-    let mut writing = response(rt.alloc(), Asks::Other, Version::HTTP_11);
-    assert_eq!(rt; writing.respond_error(502), Ok(()));
-    assert_eq!(rt; writing.respond_error(500), Ok(()));
-    assert!(rt; writing.response_done());
-    expect_written(
-        &rt,
-        rt.alloc(),
-        &mut writing,
-        "HTTP/1.1 502 Bad Gateway\r\nserver: Pingora\r\ncontent-length: 0\r\ncache-control: private, no-store\r\n\r\n",
-    )
+fn answers_errors(rt: HostRuntime) {
+    assert!(rt; answers_first(rt.alloc()) == Ok(true));
+}
+
+/// Whether an error with a body is answered so.
+fn answers_with_body(alloc: Global, method: Asks, version: Version, want: &str) -> Result<bool> {
+    let mut writing = response(alloc, method, version);
+    writing.respond_error_with_body(404, Bytes::from_static(b"nothing here"))?;
+    Ok(writing.response_done() && writes(alloc, &mut writing, want)?)
 }
 
 #[test]
-fn answers_errors_with_a_body_but_to_head(rt: HostRuntime) -> Checked {
-    let answer =
-        "HTTP/1.1 404 Not Found\r\nserver: Pingora\r\ncontent-length: 12\r\ncache-control: private, no-store\r\n\r\n";
-    let mut writing = response(rt.alloc(), Asks::Head, Version::HTTP_11);
-    let body = Bytes::from_static(b"nothing here");
-    assert_eq!(rt; writing.respond_error_with_body(404, body), Ok(()));
-    expect_written(&rt, rt.alloc(), &mut writing, answer)?;
-    let mut writing = response(rt.alloc(), Asks::Other, Version::HTTP_10);
-    let body = Bytes::from_static(b"nothing here");
-    assert_eq!(rt; writing.respond_error_with_body(404, body), Ok(()));
-    assert!(rt; writing.response_done());
-    let whole = format!(in rt.alloc(); "{answer}nothing here")?;
-    expect_written(&rt, rt.alloc(), &mut writing, &whole)
+fn answers_errors_with_a_body_but_to_head(rt: HostRuntime) {
+    let bare = "HTTP/1.1 404 Not Found\r\nserver: Pingora\r\ncontent-length: 12\r\n\
+        cache-control: private, no-store\r\n\r\n";
+    assert!(rt; answers_with_body(rt.alloc(), Asks::Head, Version::HTTP_11, bare) == Ok(true));
+    let whole = "HTTP/1.1 404 Not Found\r\nserver: Pingora\r\ncontent-length: 12\r\n\
+        cache-control: private, no-store\r\n\r\nnothing here";
+    assert!(rt; answers_with_body(rt.alloc(), Asks::Other, Version::HTTP_10, whole) == Ok(true));
 }

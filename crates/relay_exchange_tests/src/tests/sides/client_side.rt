@@ -1,57 +1,45 @@
+//! A client's side over a link in memory.
+use super::super::scripts::{Gives, has_taken, link};
 use bytes::Bytes;
 use http_header::{CONTENT_LENGTH, HeaderValue};
 use relay_core::{Down, Piece, UpKind};
 use relay_h1::Connection;
-use relay_links::{Put, ReadItem, ScriptLink, WriteItem};
+use relay_links::{Put, ScriptLink};
 use relay_session::HttpSession;
 use relay_sides::ClientSide;
-use relay_tasks::{Context, Fail, HttpTask, ResponseHeader, TaskList, Took};
-use std::alloc::{AllocError, Global};
-use std::process::Abort;
-use std::str;
-use std::test::Fail as Failed;
-
-type Checked = std::result::Result<(), Failed>;
+use relay_tasks::{Context, Fail, HttpTask, ResponseHeader, Result, TaskList, Took};
+use std::alloc::Global;
 
 type Client = Connection<ScriptLink, ()>;
 
-type Side = ClientSide;
-
-/// A client that sends these texts, ends, and takes as the items say.
-fn client(
-    alloc: Global,
-    first: &'static [u8],
-    second: &'static [u8],
-    write: WriteItem,
-) -> std::result::Result<Client, AllocError> {
-    let read = vec![in alloc;
-        ReadItem::Bytes(Bytes::from_static(first)),
-        ReadItem::Bytes(Bytes::from_static(second)),
-        ReadItem::End,
-    ]?;
-    let write = vec![in alloc; write]?;
-    Ok(Connection::new(alloc, ScriptLink::new(alloc, read, write)))
+/// A client that sends these texts, ends, and takes all.
+fn client(alloc: Global, first: &'static str, second: &'static str) -> Result<Client> {
+    let script = &[Gives::Text(first), Gives::Text(second), Gives::End];
+    Ok(Connection::new(alloc, link(alloc, script)?))
 }
 
 /// The side of that client's request.
-fn side_of(alloc: Global, client: &mut Client) -> Side {
+fn side_of(alloc: Global, client: &mut Client) -> ClientSide {
     let mut session = HttpSession::new_http1(alloc);
     let _ = session.read_request(alloc, client);
     ClientSide::new(alloc, session)
 }
 
+/// A piece in a word.
+fn piece_word(piece: &Piece) -> &'static str {
+    if !piece.client_end {
+        "piece"
+    } else if piece.is_empty() {
+        "end"
+    } else {
+        "last"
+    }
+}
+
 /// What a read gives, in a word.
 fn word(took: &Took<Piece>) -> &'static str {
     match took {
-        Took::Item(piece) => {
-            if !piece.client_end {
-                "piece"
-            } else if piece.is_empty() {
-                "end"
-            } else {
-                "last"
-            }
-        }
+        Took::Item(piece) => piece_word(piece),
         Took::More => "more",
         Took::Waited(_) => "waits",
         Took::End => "over",
@@ -68,113 +56,119 @@ fn word(took: &Took<Piece>) -> &'static str {
     }
 }
 
-/// What a read gives, where the client may be read.
-fn read_word(side: &mut Side, client: &mut Client) -> &'static str {
-    if !Down::<Client>::may_read(side) {
-        return "unread";
-    }
-    word(&side.read_piece(client, false))
+/// Whether a read gives that word, where the client may be read.
+fn gives(side: &mut ClientSide, client: &mut Client, want: &str) -> bool {
+    Down::<Client>::may_read(side) && word(&side.read_piece(client, false)) == want
 }
 
-/// What two reads of the request give.
-fn reads(
-    rt: &impl Abort,
-    alloc: Global,
-    first: &'static [u8],
-    second: &'static [u8],
-    want: [&'static str; 2],
-) -> Checked {
-    let mut client = client(alloc, first, second, WriteItem::Take(1000))?;
+/// Whether two reads of the request that these texts are give these words.
+fn reads(alloc: Global, texts: [&'static str; 2], first: &str, second: &str) -> Result<bool> {
+    let mut client = client(alloc, texts[0], texts[1])?;
     let mut side = side_of(alloc, &mut client);
-    assert_eq!(rt; read_word(&mut side, &mut client), want[0]);
-    assert_eq!(rt; read_word(&mut side, &mut client), want[1]);
-    Ok(())
+    Ok(gives(&mut side, &mut client, first) && gives(&mut side, &mut client, second))
 }
 
 #[test]
-fn reads_a_body_to_its_end(rt: HostRuntime) -> Checked {
-    let head = b"PUT / HTTP/1.1\r\nHost: h\r\nContent-Length: 4\r\n\r\nab";
-    reads(&rt, rt.alloc(), head, b"cd", ["piece", "last"])?;
-    let head = b"PUT / HTTP/1.1\r\nHost: h\r\nTransfer-Encoding: chunked\r\n\r\n2\r\nab\r\n";
-    reads(&rt, rt.alloc(), head, b"0\r\n\r\n", ["piece", "end"])
+fn reads_a_body_to_its_end(rt: HostRuntime) {
+    let texts = [
+        "PUT / HTTP/1.1\r\nHost: h\r\nContent-Length: 4\r\n\r\nab",
+        "cd",
+    ];
+    assert!(rt; reads(rt.alloc(), texts, "piece", "last") == Ok(true));
+    let texts = [
+        "PUT / HTTP/1.1\r\nHost: h\r\nTransfer-Encoding: chunked\r\n\r\n2\r\nab\r\n",
+        "0\r\n\r\n",
+    ];
+    assert!(rt; reads(rt.alloc(), texts, "piece", "end") == Ok(true));
 }
 
 #[test]
-fn tells_a_client_that_sends_less_or_more(rt: HostRuntime) -> Checked {
-    let head = b"PUT / HTTP/1.1\r\nHost: h\r\nContent-Length: 4\r\n\r\n";
-    reads(&rt, rt.alloc(), head, b"ab", ["piece", "closed"])?;
-    let head = b"PUT / HTTP/1.1\r\nHost: h\r\nContent-Length: 2\r\n\r\nab";
-    reads(&rt, rt.alloc(), head, b"cd", ["last", "sent more"])
+fn tells_a_client_that_sends_less_or_more(rt: HostRuntime) {
+    let texts = [
+        "PUT / HTTP/1.1\r\nHost: h\r\nContent-Length: 4\r\n\r\n",
+        "ab",
+    ];
+    assert!(rt; reads(rt.alloc(), texts, "piece", "closed") == Ok(true));
+    let texts = [
+        "PUT / HTTP/1.1\r\nHost: h\r\nContent-Length: 2\r\n\r\nab",
+        "cd",
+    ];
+    assert!(rt; reads(rt.alloc(), texts, "last", "sent more") == Ok(true));
 }
 
-/// Queues a response of five bytes whose body is one piece.
-fn queue_response(rt: &impl Abort, alloc: Global, side: &mut Side) -> Checked {
+/// A response of five bytes whose body is one piece.
+fn tasks(alloc: Global) -> Result<TaskList> {
     let mut head = ResponseHeader::build(alloc, 200)?;
     head.insert_header(CONTENT_LENGTH, HeaderValue::from_static("5"))?;
     let mut tasks = TaskList::new(alloc);
     tasks.push(HttpTask::Header(head, false))?;
     tasks.push(HttpTask::Body(Some(Bytes::from_static(b"hello")), false))?;
-    assert_eq!(rt;
-        Down::<Client>::take_batch(side, tasks, UpKind::H1),
-        Ok(true)
-    );
-    assert!(rt; Down::<Client>::has_pending(side));
-    Ok(())
+    Ok(tasks)
 }
 
-#[test]
-fn writes_a_batch(rt: HostRuntime) -> Checked {
-    let head = b"GET / HTTP/1.1\r\nHost: h\r\n\r\n";
-    let mut client = client(rt.alloc(), head, b"", WriteItem::Take(1000))?;
-    let mut side = side_of(rt.alloc(), &mut client);
-    queue_response(&rt, rt.alloc(), &mut side)?;
-    if Down::<Client>::has_pending(&side) {
-        assert!(rt; matches!(side.write_pending(&mut client), Put::Took(_)));
-    }
-    assert!(rt; !Down::<Client>::has_pending(&side));
-    assert_eq!(rt; Down::<Client>::finish(&mut side), Ok(()));
-    assert!(rt; !Down::<Client>::has_pending(&side));
-    assert_eq!(rt; Down::<Client>::told(&side).errors, 0);
-    assert_eq!(rt;
-        str::from_utf8(client.link().taken()),
-        Ok("HTTP/1.1 200 OK\r\ncontent-length: 5\r\n\r\nhello")
-    );
-    Ok(())
+/// Whether all that waits is written, and then nothing waits.
+fn writes(side: &mut ClientSide, client: &mut Client) -> bool {
+    Down::<Client>::has_pending(side)
+        && matches!(side.write_pending(client), Put::Took(_))
+        && !Down::<Client>::has_pending(side)
 }
 
-/// How many bytes a session has kept of its body, where they are the first of `abcd`; none where
-/// they are others.
-fn kept_of_abcd(alloc: Global, session: &HttpSession) -> relay_tasks::Result<Option<usize>> {
-    let Some(bytes) = session.get_retry_buffer(alloc)? else {
-        return Ok(Some(0));
-    };
-    if !b"abcd".starts_with(bytes.as_slice()) {
-        return Ok(None);
-    }
-    Ok(Some(bytes.len()))
-}
-
-/// Two sides, one behind the other, that each read a piece of a body: what the reads gave, and how
-/// many bytes the session has kept behind each.
-fn read_by_two_sides(
-    alloc: Global,
-) -> relay_tasks::Result<([&'static str; 2], [Option<usize>; 2])> {
-    let head = b"PUT / HTTP/1.1\r\nHost: h\r\nContent-Length: 4\r\n\r\nab";
-    let mut client = client(alloc, head, b"cd", WriteItem::Take(1000))?;
+/// Whether a batch is taken and written, and its response finished.
+fn writes_batch(alloc: Global) -> Result<bool> {
+    let mut client = client(alloc, "GET / HTTP/1.1\r\nHost: h\r\n\r\n", "")?;
     let mut side = side_of(alloc, &mut client);
-    let first = read_word(&mut side, &mut client);
-    let session = side.into_session();
-    let one = kept_of_abcd(alloc, &session)?;
-    let mut side = ClientSide::new(alloc, session);
-    let second = read_word(&mut side, &mut client);
-    let session = side.into_session();
-    let both = kept_of_abcd(alloc, &session)?;
-    Ok(([first, second], [one, both]))
+    let ends = Down::<Client>::take_batch(&mut side, tasks(alloc)?, UpKind::H1)?;
+    let is_written = writes(&mut side, &mut client);
+    Down::<Client>::finish(&mut side)?;
+    let want = "HTTP/1.1 200 OK\r\ncontent-length: 5\r\n\r\nhello";
+    Ok(
+        ends && is_written
+            && !Down::<Client>::has_pending(&side)
+            && Down::<Client>::told(&side).errors == 0
+            && has_taken(client.link(), want),
+    )
 }
 
 #[test]
-fn goes_on_with_what_another_side_read(rt: HostRuntime) -> Checked {
-    let came = read_by_two_sides(rt.alloc())?;
-    assert_eq!(rt; came, (["piece", "last"], [Some(2), Some(4)]));
-    Ok(())
+fn writes_a_batch(rt: HostRuntime) {
+    assert!(rt; writes_batch(rt.alloc()) == Ok(true));
+}
+
+/// Whether these are the bytes that a session has kept of its body.
+fn has_kept(alloc: Global, session: &HttpSession, want: &str) -> Result<bool> {
+    match session.get_retry_buffer(alloc)? {
+        Some(bytes) => Ok(bytes.as_slice() == want.as_bytes()),
+        None => Ok(false),
+    }
+}
+
+/// Whether a read over that session gives that word, and the session that it leaves, which has kept
+/// these bytes.
+fn read_on(
+    alloc: Global,
+    session: HttpSession,
+    client: &mut Client,
+    want: &str,
+    kept: &str,
+) -> Result<(bool, HttpSession)> {
+    let mut side = ClientSide::new(alloc, session);
+    let is_given = gives(&mut side, client, want);
+    let session = side.into_session();
+    let has_kept = has_kept(alloc, &session, kept)?;
+    Ok((is_given && has_kept, session))
+}
+
+/// Whether two sides, one behind the other, read the two pieces of a body, and both are kept.
+fn read_by_two_sides(alloc: Global) -> Result<bool> {
+    let head = "PUT / HTTP/1.1\r\nHost: h\r\nContent-Length: 4\r\n\r\nab";
+    let mut client = client(alloc, head, "cd")?;
+    let session = side_of(alloc, &mut client).into_session();
+    let (first, session) = read_on(alloc, session, &mut client, "piece", "ab")?;
+    let (second, _session) = read_on(alloc, session, &mut client, "last", "abcd")?;
+    Ok(first && second)
+}
+
+#[test]
+fn goes_on_with_what_another_side_read(rt: HostRuntime) {
+    assert!(rt; read_by_two_sides(rt.alloc()) == Ok(true));
 }
