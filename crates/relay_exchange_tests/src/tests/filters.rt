@@ -44,6 +44,20 @@ fn held(app: &App<Changes>, alloc: Global, made: bool) -> Result<Session<NoModul
     Ok(Session::new_h1_unmade(alloc, stand_in))
 }
 
+/// The side behind that application of a request with a body in that framing, which has ended or
+/// not.
+fn side<'a>(
+    app: &'a App<Changes>,
+    alloc: Global,
+    framing: Framing,
+    made: bool,
+    ended: bool,
+) -> Result<Side<'a>> {
+    let held = held(app, alloc, made)?;
+    let inner = ClientSide::new(alloc, session(alloc, framing)?);
+    Ok(Hooked::new::<Client>(app, held, app.new_ctx(), inner, ended, false))
+}
+
 /// Lets go of a value.
 fn release<T: Drop>(_value: T) {}
 
@@ -87,9 +101,7 @@ fn read(side: &mut Side<'_>, client: &mut Client) -> Given {
 /// What two reads give behind that application, and how many calls were entered.
 fn reads(app: &App<Changes>, alloc: Global) -> Result<(Given, Given, usize)> {
     let mut client = client(alloc)?;
-    let held = held(app, alloc, true)?;
-    let inner = ClientSide::new(alloc, session(alloc, Framing::Length(4))?);
-    let mut side = Hooked::new::<Client>(app, held, app.new_ctx(), inner, false, false);
+    let mut side = side(app, alloc, Framing::Length(4), true, false)?;
     let first = read(&mut side, &mut client);
     let second = read(&mut side, &mut client);
     Ok((first, second, entered(side)))
@@ -107,11 +119,9 @@ fn ends_the_request_where_a_piece_is_taken_away(rt: HostRuntime) {
     assert!(rt; reads(&app(Does::Cuts), rt.alloc()) == wanted);
 }
 
-/// What comes of it behind that application where an attempt puts again two bytes that were read
-/// before: what passes of them, what the two reads behind that give, and how many calls were
-/// entered.
-fn again(app: &App<Changes>, alloc: Global) -> Result<([Given; 3], usize)> {
-    let mut client = client(alloc)?;
+/// The side of a body of four bytes behind that application, where an attempt puts again two bytes
+/// that were read before, and what passes of them.
+fn again_side<'a>(app: &'a App<Changes>, alloc: Global) -> Result<(Side<'a>, Given)> {
     let held = held(app, alloc, true)?;
     let inner = ClientSide::new(alloc, session(alloc, Framing::Length(4))?);
     if !inner.session().has_head() {
@@ -123,11 +133,18 @@ fn again(app: &App<Changes>, alloc: Global) -> Result<([Given; 3], usize)> {
         client_end: false,
     };
     let ctx = app.new_ctx();
-    let (mut side, passed) = Hooked::begin_again::<Client>(app, held, ctx, inner, put, false);
-    let first = match &passed {
-        Ok(piece) => piece_given(piece),
-        Err(_) => None,
-    };
+    let (side, passed) = Hooked::begin_again::<Client>(app, held, ctx, inner, put, false);
+    match &passed {
+        Ok(piece) => Ok((side, piece_given(piece))),
+        Err(_) => Ok((side, None)),
+    }
+}
+
+/// What passes of what is put again, what the two reads behind that give, and how many calls were
+/// entered.
+fn again(app: &App<Changes>, alloc: Global) -> Result<([Given; 3], usize)> {
+    let mut client = client(alloc)?;
+    let (mut side, first) = again_side(app, alloc)?;
     let second = read(&mut side, &mut client);
     let third = read(&mut side, &mut client);
     Ok(([first, second, third], entered(side)))
@@ -165,16 +182,23 @@ fn batch(alloc: Global, response: Response) -> Result<TaskList> {
     Ok(tasks)
 }
 
-/// Whether that client takes just that text of the side.
-fn writes(side: &mut Side<'_>, client: &mut Client, text: &str) -> bool {
-    if Down::<Client>::has_pending(side) {
+/// What becomes of that batch at that side: the answer, how many calls were entered, and whether
+/// the client takes just that text.
+fn answer(
+    side: Side<'_>,
+    client: &mut Client,
+    tasks: TaskList,
+    text: &str,
+) -> (Result<bool>, usize, bool) {
+    let mut side = side;
+    let answer = Down::<Client>::take_batch(&mut side, tasks, UpKind::H1);
+    if Down::<Client>::has_pending(&side) {
         let _put = side.write_pending(client);
     }
-    has_taken(client.link(), text)
+    (answer, entered(side), has_taken(client.link(), text))
 }
 
-/// What becomes of a batch behind the application that writes, whose modules were made or not: the
-/// answer, how many calls were entered, and whether the client's link took that text.
+/// The same of a response behind the application that writes, whose modules were made or not.
 fn answers(
     alloc: Global,
     made: bool,
@@ -182,14 +206,10 @@ fn answers(
     text: &str,
 ) -> Result<(Result<bool>, usize, bool)> {
     let app = app(Does::Writes);
-    let mut client = client(alloc)?;
     let tasks = batch(alloc, response)?;
-    let held = held(&app, alloc, made)?;
-    let inner = ClientSide::new(alloc, session(alloc, Framing::Empty)?);
-    let mut side = Hooked::new::<Client>(&app, held, app.new_ctx(), inner, true, false);
-    let answer = Down::<Client>::take_batch(&mut side, tasks, UpKind::H1);
-    let is_written = writes(&mut side, &mut client, text);
-    Ok((answer, entered(side), is_written))
+    let mut client = client(alloc)?;
+    let side = side(&app, alloc, Framing::Empty, made, true)?;
+    Ok(answer(side, &mut client, tasks, text))
 }
 
 const WRITTEN: &str = "HTTP/1.1 200 OK\r\ncontent-length: 2\r\nvia: relay\r\n\r\nho";
@@ -252,9 +272,7 @@ fn three_pieces(alloc: Global) -> Result<TaskList> {
 /// The delay that is taken behind a batch of three pieces, and that behind it.
 fn delays(app: &App<Changes>, alloc: Global) -> Result<(u64, u64)> {
     let tasks = three_pieces(alloc)?;
-    let held = held(app, alloc, true)?;
-    let inner = ClientSide::new(alloc, session(alloc, Framing::Empty)?);
-    let mut side = Hooked::new::<Client>(app, held, app.new_ctx(), inner, true, false);
+    let mut side = side(app, alloc, Framing::Empty, true, true)?;
     let _refused = Down::<Client>::take_batch(&mut side, tasks, UpKind::H1);
     let first = side.take_delay();
     let second = side.take_delay();

@@ -38,15 +38,18 @@ fn peer(alloc: Global) -> Result<ScriptLink> {
     link(alloc, &[head, Gives::Text("hi")])
 }
 
-/// An exchange of that upload behind that application; none where it is refused.
-fn begun(app: &App<Changes>, alloc: Global) -> Result<Option<Exchange>> {
-    let session = held(app, alloc)?;
-    let client = HttpSession::begun_http1(alloc, upload(alloc)?, Framing::Length(4));
-    let peer = peer(alloc)?;
-    let head = upload(alloc)?;
+/// An exchange of that head at that peer behind that application; none where it is refused.
+fn begun_with(
+    app: &App<Changes>,
+    alloc: Global,
+    session: Session<NoModules>,
+    client: HttpSession,
+    peer: ScriptLink,
+    head: RequestHeader,
+) -> Option<Exchange> {
     let ctx = app.new_ctx();
     match begin::<App<Changes>, ScriptLink, Client>(app, alloc, session, ctx, client, peer, head) {
-        Ok(exchange) => Ok(Some(exchange)),
+        Ok(exchange) => Some(exchange),
         Err(
             Unbegun {
                 session: _session,
@@ -55,8 +58,17 @@ fn begun(app: &App<Changes>, alloc: Global) -> Result<Option<Exchange>> {
                 link: _,
                 why: _,
             },
-        ) => Ok(None),
+        ) => None,
     }
+}
+
+/// The same of the upload.
+fn begun(app: &App<Changes>, alloc: Global) -> Result<Option<Exchange>> {
+    let head = upload(alloc)?;
+    let client = HttpSession::begun_http1(alloc, upload(alloc)?, Framing::Length(4));
+    let peer = peer(alloc)?;
+    let session = held(app, alloc)?;
+    Ok(begun_with(app, alloc, session, client, peer, head))
 }
 
 /// Takes turns, each of which is given the application, until the exchange ends, both links are
@@ -82,25 +94,44 @@ fn run(
     (exchange, Step::Moved)
 }
 
-/// Whether the exchange finished with these texts and eight calls, and its link may be kept.
+/// What an exchange leaves: whether its link may be kept, whether its modules stood, how many calls
+/// were entered, and whether the peer was sent that text.
+fn left(exchange: Exchange, sent: &str) -> (bool, bool, usize, bool) {
+    let may_keep = exchange.may_keep();
+    let stood = exchange.modules_stood();
+    let entered = exchange.session().phase_log().len();
+    (
+        may_keep,
+        stood,
+        entered,
+        has_taken(&exchange.into_link(), sent),
+    )
+}
+
+/// Whether the exchange finishes with these texts and eight calls, and its link may be kept.
+fn finishes(
+    exchange: Exchange,
+    app: &App<Changes>,
+    alloc: Global,
+    client: &mut Client,
+    sent: &str,
+    written: &str,
+) -> bool {
+    let (exchange, last) = run(exchange, app, alloc, client);
+    left(exchange, sent) == (true, true, 8, true)
+        && last == Step::Finished
+        && has_taken(client.link(), written)
+}
+
+/// The same of an upload behind the application that does that.
 fn comes_to(does: Does, alloc: Global, sent: &str, written: &str) -> Result<bool> {
     let app = app(does);
-    let Some(begun) = begun(&app, alloc)? else {
-        return Ok(false);
-    };
     let script = &[Gives::Text("ab"), Gives::Text("cd")];
     let mut client: Client = Connection::new(alloc, link(alloc, script)?);
-    let (exchange, last) = run(begun, &app, alloc, &mut client);
-    let kept = exchange.may_keep() && exchange.modules_stood();
-    let entered = exchange.session().phase_log().len();
-    let has_sent = has_taken(&exchange.into_link(), sent);
-    Ok(
-        last == Step::Finished
-            && kept
-            && entered == 8
-            && has_sent
-            && has_taken(client.link(), written),
-    )
+    match begun(&app, alloc)? {
+        Some(exchange) => Ok(finishes(exchange, &app, alloc, &mut client, sent, written)),
+        None => Ok(false),
+    }
 }
 
 #[test]

@@ -55,11 +55,11 @@ pub(super) fn word(took: &Took<HttpTask>) -> &'static str {
     }
 }
 
-/// What so many reads of that side give, in words.
-pub(super) fn words<U: Up>(alloc: Global, side: &mut U, reads: u8) -> Result<String> {
+/// Whether so many reads of that side give these words.
+pub(super) fn tells<U: Up>(alloc: Global, side: &mut U, reads: u8, want: &str) -> Result<bool> {
     let mut told = String::new(alloc);
     for _ in 0..reads {
         told.push_str(word(&side.read_task()))?;
     }
-    Ok(told)
+    Ok(told.as_str() == want)
 }

@@ -1,6 +1,6 @@
 //! Exchanges under a schedule, with ample memory.
-use super::client::sending;
-use super::upstream::serving;
+use super::client::{Client, sending};
+use super::upstream::{Upstream, serving};
 use relay_core::*;
 use relay_links::{RoundRobin, Schedule};
 use relay_tasks::{Error, ErrorType, Fail};
@@ -30,47 +30,54 @@ fn begun(alloc: Global) -> Duplex {
     Duplex::new(alloc, UpKind::H1, false)
 }
 
-/// Both halves have finished, and the upstream's link may be kept.
-fn ended_well(duplex: &Duplex) -> bool {
-    duplex.is_finished() && duplex.upstream_may_keep()
+/// How an exchange ends: the last answer, whether both halves have finished, whether one failed,
+/// and whether the upstream's link may be kept.
+type Ends = (Step, bool, bool, bool);
+
+/// How the exchange of these sides ends.
+fn ends(alloc: Global, down: &mut Client, up: &mut Upstream) -> Ends {
+    let mut duplex = begun(alloc);
+    let mut schedule = RoundRobin::new();
+    let last = run(&mut duplex, &mut (), down, up, &mut schedule, 100);
+    let failed = duplex.state() == PipeState::Failed;
+    (
+        last,
+        duplex.is_finished(),
+        failed,
+        duplex.upstream_may_keep(),
+    )
 }
 
-/// A half failed, so that the upstream's link may not be kept.
-fn has_failed(duplex: &Duplex) -> bool {
-    duplex.state() == PipeState::Failed && !duplex.upstream_may_keep()
-}
-
-/// Whether an upload and a download run to their end: the upstream got three pieces and the end,
-/// and not the empty piece.
-fn runs_to_its_end(alloc: Global) -> std::result::Result<bool, AllocError> {
+/// How an upload beside a download ends, and how many tasks the upstream got.
+fn ends_of_both(alloc: Global) -> std::result::Result<(Ends, usize), AllocError> {
     let sent = vec![in alloc; "c", "", "b", "a"]?;
     let served = vec![in alloc; "y", "x"]?;
     let mut down = sending(alloc, sent, None);
     let mut up = serving(alloc, served, None);
-    let mut duplex = begun(alloc);
-    let mut schedule = RoundRobin::new();
-    run(&mut duplex, &mut (), &mut down, &mut up, &mut schedule, 100);
-    Ok(ended_well(&duplex) && up.got.len() == 4)
+    let ends = ends(alloc, &mut down, &mut up);
+    Ok((ends, up.got.len()))
 }
 
 #[test]
 fn an_upload_and_a_download_run_to_their_end(rt: HostRuntime) {
-    assert!(rt; runs_to_its_end(rt.alloc()) == Ok(true));
+    // three pieces and the end, and not the empty one
+    let wanted = Ok(((Step::Finished, true, false, true), 4));
+    assert!(rt; ends_of_both(rt.alloc()) == wanted);
 }
 
-/// Whether a client that breaks off with that error fails the step with it, and puts no end.
-fn fails(alloc: Global, closed: Error) -> std::result::Result<bool, AllocError> {
+/// How an upload ends whose client breaks off with that error, and how many tasks it put.
+fn ends_with(alloc: Global, closed: Error) -> std::result::Result<(Ends, usize), AllocError> {
     let sent = vec![in alloc; "a"]?;
     let mut down = sending(alloc, sent, Some(closed));
     let mut up = serving(alloc, Vec::new(alloc), None);
-    let mut duplex = begun(alloc);
-    let mut schedule = RoundRobin::new();
-    let last = run(&mut duplex, &mut (), &mut down, &mut up, &mut schedule, 100);
-    Ok(last == Step::Failed(Fail::Error(closed)) && has_failed(&duplex) && down.put.len() == 1)
+    let ends = ends(alloc, &mut down, &mut up);
+    Ok((ends, down.put.len()))
 }
 
 #[test]
 fn a_client_that_breaks_off_fails_the_step(rt: HostRuntime) {
     let closed = Error::new_down(ErrorType::ConnectionClosed);
-    assert!(rt; fails(rt.alloc(), closed) == Ok(true));
+    // no end is put
+    let wanted = Ok(((Step::Failed(Fail::Error(closed)), false, true, false), 1));
+    assert!(rt; ends_with(rt.alloc(), closed) == wanted);
 }

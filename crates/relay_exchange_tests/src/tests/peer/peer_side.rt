@@ -1,6 +1,6 @@
 //! The side of a peer in an exchange.
 use super::super::scripts::{Gives, has_taken, link};
-use super::super::words::words;
+use super::super::words::tells;
 use bytes::Bytes;
 use http::Method;
 use http_header::{CONTENT_LENGTH, HeaderValue};
@@ -31,13 +31,19 @@ fn write(side: &mut Side) {
     }
 }
 
-/// Whether a POST is written whose body comes in two pieces, the second of which ends it.
-fn writes_post(alloc: Global) -> Result<bool> {
-    let mut side = side(alloc, "")?;
+/// Writes a POST whose body comes in two pieces, the second of which ends it.
+fn write_post(alloc: Global, side: &mut Side) -> Result<()> {
     side.write_request_header(post(alloc)?)?;
     side.take_piece(HttpTask::Body(Some(Bytes::from_static(b"ab")), false))?;
     side.take_piece(HttpTask::Body(Some(Bytes::from_static(b"c")), true))?;
-    write(&mut side);
+    write(side);
+    Ok(())
+}
+
+/// Whether it is written so.
+fn writes_post(alloc: Global) -> Result<bool> {
+    let mut side = side(alloc, "")?;
+    write_post(alloc, &mut side)?;
     let want = "POST / HTTP/1.1\r\ncontent-length: 3\r\n\r\nabc";
     Ok(!side.has_pending() && has_taken(&side.into_link(), want))
 }
@@ -47,16 +53,26 @@ fn writes_a_request_by_its_length(rt: HostRuntime) {
     assert!(rt; writes_post(rt.alloc()) == Ok(true));
 }
 
+/// Queues a GET.
+fn ask(alloc: Global, side: &mut Side) -> Result<()> {
+    side.write_request_header(RequestHeader::build(alloc, &Method::GET, b"/")?)?;
+    side.take_piece(HttpTask::Done)
+}
+
+/// Whether the link may be kept only once what waits was written.
+fn keeps_once_written(side: &mut Side) -> bool {
+    let is_early = side.may_keep();
+    write(side);
+    !is_early && side.may_keep()
+}
+
 /// Whether a response is read, and the link may be kept once the request was written.
 fn reads_response(alloc: Global) -> Result<bool> {
     let text = "HTTP/1.1 100 Continue\r\n\r\nHTTP/1.1 200 OK\r\ncontent-length: 2\r\n\r\nab";
     let mut side = side(alloc, text)?;
-    side.write_request_header(RequestHeader::build(alloc, &Method::GET, b"/")?)?;
-    side.take_piece(HttpTask::Done)?;
-    let told = words(alloc, &mut side, 4)?.as_str() == " informs head piece and end";
-    let is_early = side.may_keep();
-    write(&mut side);
-    Ok(told && !is_early && side.told().errors == 0 && side.may_keep())
+    ask(alloc, &mut side)?;
+    let told = tells(alloc, &mut side, 4, " informs head piece and end")?;
+    Ok(told && side.told().errors == 0 && keeps_once_written(&mut side))
 }
 
 #[test]

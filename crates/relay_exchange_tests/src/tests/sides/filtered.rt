@@ -1,6 +1,6 @@
 //! The side of a peer behind what a response is framed and refused by.
 use super::super::scripts::{Gives, link};
-use super::super::words::words;
+use super::super::words::tells;
 use http::Method;
 use relay_core::Up;
 use relay_links::ScriptLink;
@@ -30,23 +30,25 @@ fn tells_a_head_request_by_its_method(rt: HostRuntime) {
 }
 
 /// Whether so many reads of a side over that text give these words.
-fn tells(alloc: Global, text: &'static str, reads: u8, want: &str) -> Result<bool> {
+fn hands_on(alloc: Global, text: &'static str, reads: u8, want: &str) -> Result<bool> {
     let mut side = filtered(alloc, text)?;
-    Ok(words(alloc, &mut side, reads)?.as_str() == want)
+    tells(alloc, &mut side, reads, want)
 }
 
 #[test]
 fn hands_a_response_on(rt: HostRuntime) {
     let text = "HTTP/1.1 100 Continue\r\n\r\nHTTP/1.1 200 OK\r\ncontent-length: 2\r\n\r\nab";
-    assert!(rt; tells(rt.alloc(), text, 3, " informs head piece and end") == Ok(true));
+    assert!(rt; hands_on(rt.alloc(), text, 3, " informs head piece and end") == Ok(true));
     let text = "HTTP/1.1 200 OK\r\n\r\nab";
-    assert!(rt; tells(rt.alloc(), text, 4, " chunked head piece done") == Ok(true));
+    assert!(rt; hands_on(rt.alloc(), text, 4, " chunked head piece done") == Ok(true));
 }
 
 /// Whether a response asks to close, by its side, which was read so often.
 fn closes(alloc: Global, text: &'static str, reads: u8) -> Result<bool> {
     let mut side = filtered(alloc, text)?;
-    let _told = words(alloc, &mut side, reads)?;
+    for _ in 0..reads {
+        let _ = side.read_task();
+    }
     Ok(side.asks_to_close())
 }
 
@@ -59,13 +61,15 @@ fn tells_that_a_final_head_asks_to_close(rt: HostRuntime) {
 }
 
 /// Whether a head that switches protocols is refused, by this side alone.
+fn refuses(alloc: Global, side: &mut Side) -> Result<bool> {
+    let told = tells(alloc, side, 2, " switches switches")?;
+    Ok(told && side.told().errors == 2 && side.inner().told().errors == 0)
+}
+
+/// The same of a side over a link that gives such a head.
 fn refuses_switch(alloc: Global) -> Result<bool> {
     let mut side = filtered(alloc, "HTTP/1.1 101 Switching Protocols\r\n\r\n")?;
-    Ok(
-        words(alloc, &mut side, 2)?.as_str() == " switches switches"
-            && side.told().errors == 2
-            && side.inner().told().errors == 0,
-    )
+    refuses(alloc, &mut side)
 }
 
 #[test]
