@@ -21,9 +21,9 @@ fn response(alloc: Global, method: Asks, version: Version) -> Writing {
 }
 
 /// A final head with one field.
-fn head(alloc: Global, name: HeaderName, value: &'static str) -> Result<ResponseHeader> {
+fn head(alloc: Global, name: HeaderName, value: HeaderValue) -> Result<ResponseHeader> {
     let mut head = ResponseHeader::build(alloc, 200)?;
-    head.insert_header(name, HeaderValue::from_static(value))?;
+    head.insert_header(name, value)?;
     Ok(head)
 }
 
@@ -97,7 +97,8 @@ fn ends_with(writing: &mut Writing, piece: &'static [u8], end: bool) -> Result<b
 fn writes_call_by_call(alloc: Global) -> Result<bool> {
     let mut writing = response(alloc, Asks::Other, Version::HTTP_11);
     let early = ends_with(&mut writing, b"early", true)? || writing.response_written();
-    writing.write_response_header(head(alloc, CONTENT_LENGTH, "7")?)?;
+    let seven = HeaderValue::from_static("7");
+    writing.write_response_header(head(alloc, CONTENT_LENGTH, seven)?)?;
     let is_open = writing.response_written() && !ends_with(&mut writing, b"hello", false)?;
     let ends = ends_with(&mut writing, b"world", false)?;
     writing.finish_body()?;
@@ -119,7 +120,8 @@ fn writes_a_response_call_by_call(rt: HostRuntime) {
 /// Whether a response in chunks closes the connection of a client of that version.
 fn closes(alloc: Global, version: Version) -> Result<bool> {
     let mut writing = response(alloc, Asks::Other, version);
-    writing.write_response_header(head(alloc, TRANSFER_ENCODING, "chunked")?)?;
+    let chunked = HeaderValue::from_static("chunked");
+    writing.write_response_header(head(alloc, TRANSFER_ENCODING, chunked)?)?;
     Ok(writing.response_closes())
 }
 
