@@ -2,3 +2,4 @@ pub mod RoundLemmas
 pub mod TurnLemmas
 pub mod PassLemmas
 pub mod ToldLemmas
+pub mod CallLemmas

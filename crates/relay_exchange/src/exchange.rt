@@ -1,6 +1,6 @@
 //! One exchange over any two sides: the head of the request is sent, and then both bodies flow
 //! (RFC 9112, sections 6, 7 and 9.3).
-ghost use Rattle.std.specs.Prelude.{◌≡◌, ◌⊎◌, true, false, None, Some, IsTrue};
+ghost use Rattle.std.specs.Prelude.{◌≡◌, ◌⊎◌, ◌≤◌, true, false, None, Some, IsTrue};
 ghost use Rattle.relay_tasks.specs.declared.error.Error.{Error};
 ghost use Rattle.relay_core.specs.Asked.{WaitRose};
 ghost use Rattle.relay_core.specs.Causes.{says_failed, says_finished};
@@ -128,6 +128,9 @@ impl<D, U: Up> Exchange<D, U> {
         // The client's side tells no error but the one that a turn fails with.
         ensures errors { TellsOn (D.state self.old.down).told (D.state self.new.down).told
             result.step }
+        // A turn that does not fail takes no call of a hook back.
+        ensures calls { says_failed result.step ≡ false
+            → (D.state self.old.down).calls ≤ (D.state self.new.down).calls }
         // A turn that does not fail leaves the count of the client's faults.
         ensures calm { says_failed result.step ≡ false
             → (D.link client.new).faults ≡ (D.link client.old).faults }
@@ -289,6 +292,8 @@ fn send_head<C, D: Down<C>, U: Up>(
         → result ≡ Step.Moved
         → AsksOne (U.link up.old) (U.link up.new) (D.link client.old) (D.link client.new) }
     ensures errors { TellsOn (D.state down.old).told (D.state down.new).told result }
+    ensures calls { says_failed result ≡ false
+        → (D.state down.old).calls ≤ (D.state down.new).calls }
     ensures calm { says_failed result ≡ false
         → (D.link client.new).faults ≡ (D.link client.old).faults }
     ensures client_start { D.start client.new ≡ D.start client.old }
@@ -334,6 +339,8 @@ fn write_head<C, D: Down<C>, U: Up>(
         → result ≡ Step.Moved
         → AsksOne (U.link up.old) (U.link up.new) (D.link client.old) (D.link client.new) }
     ensures errors { TellsOn (D.state down.old).told (D.state down.new).told result }
+    ensures calls { says_failed result ≡ false
+        → (D.state down.old).calls ≤ (D.state down.new).calls }
     ensures calm { says_failed result ≡ false
         → (D.link client.new).faults ≡ (D.link client.old).faults }
     ensures client_start { D.start client.new ≡ D.start client.old }

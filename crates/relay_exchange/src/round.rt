@@ -1,6 +1,6 @@
 //! One turn of a duplex: the branch that a schedule picks, and where its link is silent the next
 //! enabled ones, going round.
-ghost use Rattle.std.specs.Prelude.{◌≡◌, ◌⊎◌, false, IsTrue};
+ghost use Rattle.std.specs.Prelude.{◌≡◌, ◌⊎◌, ◌≤◌, false, IsTrue};
 ghost use Rattle.relay_core.specs.Asked.{IsQuiet, WaitRose};
 ghost use Rattle.relay_core.specs.Causes.{Tells, says_failed};
 ghost use Rattle.relay_core.specs.Moves.{SoFar, Goes};
@@ -77,6 +77,10 @@ pub(crate) fn go_round<C, D: Down<C>, U: Up, H: Schedule>(
 
     // The client's side tells no error but the one that a turn fails with.
     ensures errors { TellsOn (D.state down.old).told (D.state down.new).told result.0 }
+
+    // A turn that does not fail takes no call of a hook back.
+    ensures calls { says_failed result.0 ≡ false
+        → (D.state down.old).calls ≤ (D.state down.new).calls }
 
     // A turn that does not fail leaves the count of the client's faults.
     ensures calm { says_failed result.0 ≡ false

@@ -1,7 +1,7 @@
 //! One exchange between a client and an HTTP/1 link to a peer behind the filters of an application,
 //! which is held between turns without it (RFC 9112, sections 6, 7 and 9.3).
 ghost use Rattle.std.specs.declared.alloc.Global.{Global};
-ghost use Rattle.std.specs.Prelude.{◌≡◌, ◌↔◌, ◌^◌, ◌-◌, ◌+◌, Bool, ℕ, List, [], None, Some, false, drop, is_some, length, min, IfOk, IfErr, IsOkUnless, true, ◌⊎◌};
+ghost use Rattle.std.specs.Prelude.{◌≡◌, ◌↔◌, ◌^◌, ◌-◌, ◌+◌, ◌≤◌, Bool, ℕ, List, [], None, Some, false, drop, is_some, length, min, IfOk, IfErr, IsOkUnless, true, ◌⊎◌};
 ghost use Rattle.relay_tasks.specs.Head.{RequestHead};
 ghost use Rattle.relay_links.specs.Link.{IsHandedOut};
 ghost use Rattle.relay_h1.specs.Framing.{request_framing};
@@ -14,7 +14,7 @@ ghost use Rattle.relay_session.specs.Reading.{head_of};
 ghost use Rattle.relay_sides.specs.Client.{BeginsBehind, begun_past, put_again};
 ghost use Rattle.relay_sides.specs.Filtered.{is_head_request};
 ghost use Rattle.relay_sides.specs.Lent.{SameButHead};
-ghost use Rattle.relay_calls.specs.Log.{IsAllowed};
+ghost use Rattle.relay_calls.specs.Log.{IsAllowed, requests_in};
 ghost use Rattle.relay_filters.specs.Delay.{delays_of};
 ghost use Rattle.relay_filters.specs.Hooked.{is_lost, stood_head};
 ghost use Rattle.relay_filters.specs.Response.{SomeAllow};
@@ -198,6 +198,10 @@ pub fn turn<SV: ProxyHttp, L: ByteLink, F: Front, H: Schedule>(
         → result.1.step ≡ Step.Moved
         → HasMoved L.state result.1.branch (F.state client.old) (F.state client.new) under_way
         result.0 }
+    // A turn that does not fail takes no call of the filter of requests back.
+    ensures counts { says_failed result.1.step ≡ false
+        → length (requests_in under_way.exchange.down.session.seen.log)
+        ≤ length (requests_in result.0.exchange.down.session.seen.log) }
     // A turn that does not fail leaves the count of the client's faults, and a client's session
     // that no hook may have left as anything.
     ensures calm { says_failed result.1.step ≡ false

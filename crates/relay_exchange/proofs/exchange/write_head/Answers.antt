@@ -3,6 +3,7 @@ use Rattle.std.proofs.Common.{sym, ◌∙◌}
 use Rattle.relay_tasks.specs.declared.error.Fail.TheVariants as fail
 use Rattle.relay_core.specs.Table.{core}
 use Rattle.relay_core.specs.declared.step.Step.TheVariants as step
+use Rattle.relay_exchange.proofs.CallLemmas.{calls_still}
 use Rattle.relay_exchange.proofs.PassLemmas.{may_ask, write_asked}
 use Rattle.relay_exchange.proofs.ToldLemmas.{told_still}
 use Rattle.relay_exchange.proofs.TurnLemmas.{turns_on, turns_failed}
@@ -37,6 +38,14 @@ returns-in-None-clause-errors g c =
     (core c.args.duplex.now (g.D.Down.state c.args.down.now) (g.U.Up.state c.args.up.now))
     (core t.new.self (g.D.Down.state t.new.down) (g.U.Up.state t.new.up)) t.result
     t.ensures.exact.down
+
+-- it calls no hook
+pub returns-in-None-clause-calls : goal.returns-in-None-clause-calls
+returns-in-None-clause-calls g c = λ unfailed.
+    let t = c.step-step in
+    calls_still
+    (core c.args.duplex.now (g.D.Down.state c.args.down.now) (g.U.Up.state c.args.up.now))
+    (core t.new.self (g.D.Down.state t.new.down) (g.U.Up.state t.new.up)) t.ensures.exact.down
 
 -- it asked one link once, or none
 pub returns-in-Some-clause-asks : goal.returns-in-Some-clause-asks

@@ -16,6 +16,7 @@ use Rattle.relay_core.proofs.BoolLemmas.{clash}
 use Rattle.relay_core.proofs.KeepLemmas.{goes_then}
 use Rattle.relay_exchange.specs.Exchange.{IsSilentLink, TellsOn}
 use Rattle.relay_exchange.proofs.PassLemmas.{asks_from, moved_from}
+use Rattle.relay_exchange.proofs.CallLemmas.{calls_on}
 use Rattle.relay_exchange.proofs.ToldLemmas.{told_from, told_on}
 use Rattle.relay_exchange.proofs.RoundLemmas.{all_round, passed_first, passed_more, met, silent_link}
 use Rattle.relay_exchange.proofs.round.go_round.Goals as goal
@@ -202,6 +203,25 @@ returns-then-not-is_silent-2-clause-errors g c =
     (core c.loop-turn.duplex (g.D.Down.state c.loop-turn.down) (g.U.Up.state c.loop-turn.up))
     (core t.new.self (g.D.Down.state t.new.down) (g.U.Up.state t.new.up)) t.result
     t.ensures.exact)
+
+-- nor does the first branch take a call of a hook back
+pub returns-then-not-is_silent-clause-calls : goal.returns-then-not-is_silent-clause-calls
+returns-then-not-is_silent-clause-calls g c =
+    let t = c.step-step in
+    calls_on c.in-Some.first
+    (core c.args.duplex.now (g.D.Down.state c.args.down.now) (g.U.Up.state c.args.up.now))
+    (core t.new.self (g.D.Down.state t.new.down) (g.U.Up.state t.new.up)) t.result t.ensures.exact
+
+-- nor one behind silent branches, which made none
+pub returns-then-not-is_silent-2-clause-calls : goal.returns-then-not-is_silent-2-clause-calls
+returns-then-not-is_silent-2-clause-calls g c = λ unfailed.
+    let t = c.step-step-in-loop-turn in
+    let same = c.loop-turn.invariant.11 in
+    let more = calls_on _
+    (core c.loop-turn.duplex (g.D.Down.state c.loop-turn.down) (g.U.Up.state c.loop-turn.up))
+    (core t.new.self (g.D.Down.state t.new.down) (g.U.Up.state t.new.up)) t.result
+    t.ensures.exact unfailed in
+    omega arith
 
 -- behind silent branches one link was asked once, or none
 pub returns-then-not-is_silent-2-clause-asks : goal.returns-then-not-is_silent-2-clause-asks

@@ -1,6 +1,7 @@
 -- A turn between both sides is one over all that passed, and the application is that of the side.
 use Rattle.std.proofs.Common.{◌≡◌, refl, ap, ◌∙◌}
 use Rattle.relay_tasks.specs.declared.log.LogEntry.{LogEntry}
+use Rattle.relay_core.specs.Causes.{says_failed}
 use Rattle.relay_hooks.specs.Standing.{Standing}
 use Rattle.relay_calls.specs.Log.{IsAllowed}
 use Rattle.relay_filters.specs.Hooked.{Stays}
@@ -113,3 +114,12 @@ returns-clause-moves g c = λ s p under is.
     (c.turn-went.ensures.moves s under.down under.up (rw c.with_app-held.ensures under.holds) own)
     in
     rw c.without_app-left.ensures (rw c.settled-turn.ensures.branch moves)
+
+-- a turn that does not fail is the duplex's, which takes no call back
+pub returns-clause-counts : goal.returns-clause-counts
+returns-clause-counts g c = λ unfailed.
+    let own = from_settled c.settled-turn.result.step c.turn-went.result.step _
+    c.settled-turn.ensures.either unfailed refl in
+    let counts = rw c.with_app-held.ensures at
+    (c.turn-went.ensures.calls (ap says_failed own ∙ unfailed)) in
+    rw c.without_app-left.ensures counts
