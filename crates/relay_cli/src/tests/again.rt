@@ -1,138 +1,156 @@
 //! An upload whose first link fails at any of its calls, beside a second peer that answers: what
 //! was read of the body is sent again from its first byte.
-use super::support::{
-    BAD_GATEWAY, Failing, Ran, WRITES, bytes_item, in_turn, marked_link, push_bytes, run_over,
-};
-use relay_links::{Branch, ReadItem, ScriptLink};
-use relay_tasks::{ErrorSource, ErrorType};
+use super::support::{Sweep, reports};
 use std::alloc::{AllocError, Global};
-use std::test::Fail;
-
-/// A request that waits for leave to send its body of five bytes; what a peer is sent of its head
-/// has 77 bytes.
-const HEAD: &[u8] =
-    b"PUT /e HTTP/1.1\r\nHost: h.example\r\nExpect: 100-continue\r\nContent-Length: 5\r\n\r\n";
-
-const SENT: &[u8] =
-    b"PUT /e HTTP/1.1\r\nhost: h.example\r\nexpect: 100-continue\r\ncontent-length: 5\r\n\r\nhello";
-
-/// The leave, of 25 bytes.
-const LEAVE: &[u8] = b"HTTP/1.1 100 Continue\r\n\r\n";
-
-/// The answers of the first peer and of the second, of 40 bytes.
-const FIRST: &[u8] = b"HTTP/1.1 200 OK\r\nContent-Length: 2\r\n\r\nno";
-
-const SECOND: &[u8] = b"HTTP/1.1 200 OK\r\nContent-Length: 2\r\n\r\nhi";
-
-/// What the client is written: by the first peer alone, by the second behind a first that gave no
-/// leave, and by the second behind one that did.
-const BY_FIRST: &[u8] =
-    b"HTTP/1.1 100 Continue\r\n\r\nHTTP/1.1 200 OK\r\ncontent-length: 2\r\n\r\nno";
-
-const BY_SECOND: &[u8] =
-    b"HTTP/1.1 100 Continue\r\n\r\nHTTP/1.1 200 OK\r\ncontent-length: 2\r\n\r\nhi";
-
-const BY_BOTH: &[u8] = b"HTTP/1.1 100 Continue\r\n\r\nHTTP/1.1 100 Continue\r\n\r\n\
-    HTTP/1.1 200 OK\r\ncontent-length: 2\r\n\r\nhi";
 
 /// Both bodies pass in turn, so that a link fails at each stage of them.
-const TURNS: [Branch; 6] = [
-    Branch::DownRead,
-    Branch::UpRead,
-    Branch::DownTake,
-    Branch::DownWrite,
-    Branch::UpTake,
-    Branch::UpWrite,
+const TURNS: &str = r#"
+    "DownRead","UpRead","DownTake","DownWrite","UpTake","UpWrite",
+    "DownRead","UpRead","DownTake","DownWrite","UpTake","UpWrite",
+    "DownRead","UpRead","DownTake","DownWrite","UpTake","UpWrite",
+    "DownRead","UpRead","DownTake","DownWrite","UpTake","UpWrite",
+    "DownRead","UpRead","DownTake","DownWrite","UpTake","UpWrite",
+    "DownRead","UpRead","DownTake","DownWrite","UpTake","UpWrite",
+    "DownRead","UpRead","DownTake","DownWrite","UpTake","UpWrite",
+    "DownRead","UpRead","DownTake","DownWrite","UpTake","UpWrite"
+"#;
+
+/// What follows the list of the first link: its end, and a second link over which all passes.
+const SECOND: &str = "{\"after\":0}]},{\"name\":\"b\",\"read\":[{\"after\":77},\
+    {\"text\":\"HTTP/1.1 100 Continue\\r\\n\\r\\n\"},\
+    {\"text\":\"HTTP/1.1 200 OK\\r\\nContent-Length: 2\\r\\n\\r\\nhi\"}]}]}";
+
+/// A request that waits for leave to send its body, byte by byte, before the bytes of the first
+/// peer.
+const READS: Sweep = Sweep {
+    schedule: TURNS,
+    front: "],\"client\":[{\"text\":\"PUT /e HTTP/1.1\\r\\nHost: h.example\\r\\n\
+        Expect: 100-continue\\r\\nContent-Length: 5\\r\\n\\r\\n\"},{\"after\":25},\
+        {\"text\":\"h\"},{\"text\":\"e\"},{\"text\":\"l\"},{\"text\":\"l\"},{\"text\":\"o\"}],\
+        \"peers\":[{\"name\":\"a\",\"read\":[{\"after\":77},",
+    fault: "{\"fault\":\"Read\",\"retry\":true},",
+    back: SECOND,
+};
+
+/// The leave and the answer of the first peer.
+const FIRST: &[u8] = b"HTTP/1.1 100 Continue\r\n\r\n\
+    HTTP/1.1 200 OK\r\nContent-Length: 2\r\n\r\nno";
+
+/// How many bytes its leave has, the leave and the final head, and all.
+const LEFT: usize = 25;
+
+const HEADED: usize = 63;
+
+const ANSWERED: usize = 65;
+
+/// The second peer answers behind a first that gave no leave.
+const BY_SECOND: [&str; 9] = [
+    "0 request 1",
+    "outcome Served",
+    "error -",
+    "reuse yes",
+    "written HTTP/1.1 100 Continue\\r\\n\\r\\n\
+        HTTP/1.1 200 OK\\r\\ncontent-length: 2\\r\\n\\r\\nhi",
+    "attempt 1 a reused no kept no error ReadError Upstream true",
+    "sent ~PUT /e HTTP/1.1\\r\\nhost: h.example\\r\\nexpect: 100-continue\\r\\n\
+        content-length: 5\\r\\n\\r\\nhello",
+    "attempt 2 b reused no kept yes error -",
+    "sent PUT /e HTTP/1.1\\r\\nhost: h.example\\r\\nexpect: 100-continue\\r\\n\
+        content-length: 5\\r\\n\\r\\nhello",
 ];
 
-/// The client's link: the head, and once there is leave the body, byte by byte.
-fn client(alloc: Global) -> Result<ScriptLink, AllocError> {
-    let mut items = Vec::new(alloc);
-    push_bytes(alloc, &mut items, HEAD)?;
-    items.push(ReadItem::After(25))?;
-    push_bytes(alloc, &mut items, b"hello")?;
-    Ok(ScriptLink::new(alloc, items, Vec::new(alloc)))
+/// The same behind a first that did.
+const BY_BOTH: [&str; 9] = [
+    "0 request 1",
+    "outcome Served",
+    "error -",
+    "reuse yes",
+    "written HTTP/1.1 100 Continue\\r\\n\\r\\nHTTP/1.1 100 Continue\\r\\n\\r\\n\
+        HTTP/1.1 200 OK\\r\\ncontent-length: 2\\r\\n\\r\\nhi",
+    "attempt 1 a reused no kept no error ReadError Upstream true",
+    "sent ~PUT /e HTTP/1.1\\r\\nhost: h.example\\r\\nexpect: 100-continue\\r\\n\
+        content-length: 5\\r\\n\\r\\nhello",
+    "attempt 2 b reused no kept yes error -",
+    "sent PUT /e HTTP/1.1\\r\\nhost: h.example\\r\\nexpect: 100-continue\\r\\n\
+        content-length: 5\\r\\n\\r\\nhello",
+];
+
+/// The first answer breaks off behind its head: no other peer is asked.
+const BROKEN_OFF: [&str; 8] = [
+    "0 request 1",
+    "outcome Served",
+    "error ReadError Upstream true",
+    "reuse no",
+    "written HTTP/1.1 100 Continue\\r\\n\\r\\n\
+        HTTP/1.1 200 OK\\r\\ncontent-length: 2\\r\\n\\r\\n~n",
+    "attempt 1 a reused no kept no error ReadError Upstream true",
+    "sent ~PUT /e HTTP/1.1\\r\\nhost: h.example\\r\\nexpect: 100-continue\\r\\n\
+        content-length: 5\\r\\n\\r\\nhello",
+    "log new_ctx ok",
+];
+
+/// The first answers.
+const BY_FIRST: [&str; 8] = [
+    "0 request 1",
+    "outcome Served",
+    "error -",
+    "reuse yes",
+    "written HTTP/1.1 100 Continue\\r\\n\\r\\n\
+        HTTP/1.1 200 OK\\r\\ncontent-length: 2\\r\\n\\r\\nno",
+    "attempt 1 a reused no kept yes error -",
+    "sent PUT /e HTTP/1.1\\r\\nhost: h.example\\r\\nexpect: 100-continue\\r\\n\
+        content-length: 5\\r\\n\\r\\nhello",
+    "log new_ctx ok",
+];
+
+/// What is reported where the first link fails behind so many bytes.
+fn lines_at_read(bytes: usize) -> &'static [&'static str] {
+    if bytes < LEFT {
+        return &BY_SECOND;
+    }
+    if bytes < HEADED {
+        return &BY_BOTH;
+    }
+    if bytes < ANSWERED {
+        return &BROKEN_OFF;
+    }
+    &BY_FIRST
 }
-
-/// The leave behind the head, byte by byte.
-fn leave(alloc: Global) -> Result<Vec<ReadItem>, AllocError> {
-    let mut items = vec![in alloc; ReadItem::After(77)]?;
-    push_bytes(alloc, &mut items, LEAVE)?;
-    Ok(items)
-}
-
-/// The request over a first link with these items that fails so, and then asks to be tried again,
-/// and a second one over which all passes.
-fn run_failing(alloc: Global, first: Vec<ReadItem>, call: Failing) -> Result<Ran, Fail> {
-    let mut second = leave(alloc)?;
-    push_bytes(alloc, &mut second, SECOND)?;
-    let mut peers = Vec::new(alloc);
-    peers.push(marked_link(alloc, first, call, true)?)?;
-    peers.push(marked_link(alloc, second, Failing::No, false)?)?;
-    run_over(alloc, client(alloc)?, peers, in_turn(alloc, &TURNS, 200)?)
-}
-
-/// The request over a first link that gives leave and its answer, and fails at that read.
-fn run_to_read(alloc: Global, call: usize) -> Result<Ran, Fail> {
-    let mut first = leave(alloc)?;
-    push_bytes(alloc, &mut first, FIRST)?;
-    run_failing(alloc, first, Failing::Read(call))
-}
-
-/// Whether the second peer was sent all of the request, and its answer is what the client gets,
-/// behind the leave of the first where that gave it.
-fn is_tried_again(ran: &Ran, left: bool) -> bool {
-    let written = if left { BY_BOTH } else { BY_SECOND };
-    ran.is_relayed_again(written, SENT) && SENT.starts_with(&ran.sent)
-}
-
-/// Whether the first answer breaks off behind its head: the fault is told, and no other peer is
-/// asked.
-fn is_broken_off(ran: &Ran) -> bool {
-    ran.failure() == Some((ErrorType::ReadError, ErrorSource::Upstream))
-        && ran.again.is_none()
-        && ran.written.len() < BY_FIRST.len()
-        && BY_FIRST.starts_with(&ran.written)
-        && SENT.starts_with(&ran.sent)
-}
-
-/// The reads of the first link behind which there is leave, its final head, and its answer; the
-/// item that waits for the head is the first one.
-const LEFT: usize = 26;
-
-const HEADED: usize = 64;
-
-const ANSWERED: usize = 66;
 
 #[test]
-fn tries_again_at_every_read_of_the_first_link(rt: HostRuntime) -> Result<(), Fail> {
-    let alloc = rt.alloc();
-    for call in 0..HEADED {
-        let ran = run_to_read(alloc, call)?;
-        assert!(rt; is_tried_again(&ran, call >= LEFT), "at {call}");
+fn tries_again_at_every_read_of_the_first_link(rt: HostRuntime) -> Result<(), AllocError> {
+    for at in 0..=ANSWERED {
+        let told = READS.reports_at_read(rt.alloc(), FIRST, at, lines_at_read(at))?;
+        assert!(rt; told, "behind {at} bytes");
     }
-    for call in HEADED..ANSWERED {
-        assert!(rt; is_broken_off(&run_to_read(alloc, call)?), "at {call}");
-    }
-    let ran = run_to_read(alloc, ANSWERED)?;
-    assert!(rt; ran.is_relayed(BY_FIRST, SENT) && ran.again.is_none());
     Ok(())
 }
 
-/// How many writes to the first link there are: 77 bytes of the head, five at a time, and then each
-/// byte of the body.
+/// The same request before the writes to the first peer, which gives leave, waits for longer than
+/// the body takes, and ends.
+const WRITES: Sweep = Sweep {
+    schedule: TURNS,
+    front: "],\"client\":[{\"text\":\"PUT /e HTTP/1.1\\r\\nHost: h.example\\r\\n\
+        Expect: 100-continue\\r\\nContent-Length: 5\\r\\n\\r\\n\"},{\"after\":25},\
+        {\"text\":\"h\"},{\"text\":\"e\"},{\"text\":\"l\"},{\"text\":\"l\"},{\"text\":\"o\"}],\
+        \"peers\":[{\"name\":\"a\",\"read\":[{\"after\":77},\
+        {\"text\":\"HTTP/1.1 100 Continue\\r\\n\\r\\n\"},{\"wait\":100},{\"end\":true}],\
+        \"write\":[",
+    fault: "{\"fault\":\"Write\",\"retry\":true},",
+    back: "{\"take\":5}]},{\"name\":\"b\",\"read\":[{\"after\":77},\
+        {\"text\":\"HTTP/1.1 100 Continue\\r\\n\\r\\n\"},\
+        {\"text\":\"HTTP/1.1 200 OK\\r\\nContent-Length: 2\\r\\n\\r\\nhi\"}]}]}",
+};
+
+/// What a peer is sent: a head of 77 bytes, and the body.
+const SENT: &[u8] =
+    b"PUT /e HTTP/1.1\r\nhost: h.example\r\nexpect: 100-continue\r\ncontent-length: 5\r\n\r\nhello";
+
+/// How many writes to the first link there are: those of the head, five bytes at a time, and then
+/// each byte of the body.
 const HEAD_WRITES: usize = 16;
 
 const ALL_WRITES: usize = 21;
-
-/// The request over a first link that gives leave, waits for longer than the body takes, and ends;
-/// and fails at that write.
-fn run_to_write(alloc: Global, call: usize) -> Result<Ran, Fail> {
-    let mut first = leave(alloc)?;
-    first.push(ReadItem::Wait(100))?;
-    first.push(ReadItem::End)?;
-    run_failing(alloc, first, Failing::Write(call))
-}
 
 /// How many bytes of the request the first link took where that write fails.
 fn taken_before(call: usize) -> usize {
@@ -142,102 +160,119 @@ fn taken_before(call: usize) -> usize {
     (call - HEAD_WRITES).saturating_add(77)
 }
 
-/// Whether the first link, which took all, ended without an answer: that is told, and no other peer
-/// is asked.
-fn is_unanswered(alloc: Global, ran: &Ran) -> Result<bool, Fail> {
-    let mut written = Vec::from_slice(alloc, LEAVE)?;
-    written.extend_from_slice(BAD_GATEWAY)?;
-    Ok(
-        ran.failure() == Some((ErrorType::ConnectionClosed, ErrorSource::Upstream))
-            && ran.again.is_none()
-            && ran.written == written
-            && ran.sent.as_slice() == SENT,
-    )
+/// The line that tells so many bytes of the request as sent.
+fn line_of_sent(alloc: Global, bytes: usize) -> Result<String, AllocError> {
+    let mut line = String::from_str(alloc, "sent ")?;
+    for byte in SENT.iter().take(bytes) {
+        match *byte {
+            b'\r' => line.push_str("\\r")?,
+            b'\n' => line.push_str("\\n")?,
+            byte => line.push(char::from(byte))?,
+        }
+    }
+    Ok(line)
 }
 
+/// The line that tells what the client is written where that write to the first link fails.
+fn line_of_written(call: usize) -> &'static str {
+    if call < HEAD_WRITES {
+        return BY_SECOND[4];
+    }
+    BY_BOTH[4]
+}
+
+/// Whether the upload is sent whole over the second link where that write to the first one fails.
+fn tries_again_at_write(alloc: Global, call: usize) -> Result<bool, AllocError> {
+    let sent = line_of_sent(alloc, taken_before(call))?;
+    let lines = [
+        "0 request 1",
+        "outcome Served",
+        "error -",
+        "reuse yes",
+        line_of_written(call),
+        "attempt 1 a reused no kept no error WriteError Upstream true",
+        sent.as_str(),
+        "attempt 2 b reused no kept yes error -",
+        "sent PUT /e HTTP/1.1\\r\\nhost: h.example\\r\\nexpect: 100-continue\\r\\n\
+        content-length: 5\\r\\n\\r\\nhello",
+    ];
+    WRITES.reports_at_write(alloc, call, &lines)
+}
+
+/// The first link, which took all, ended without an answer: no other peer is asked.
+const UNANSWERED: [&str; 8] = [
+    "0 request 1",
+    "outcome Served",
+    "error ConnectionClosed Upstream false",
+    "reuse no",
+    "written HTTP/1.1 100 Continue\\r\\n\\r\\nHTTP/1.1 502 Bad Gateway\\r\\nserver: Pingora\\r\\n\
+        content-length: 0\\r\\ncache-control: private, no-store\\r\\n\\r\\n",
+    "attempt 1 a reused no kept no error ConnectionClosed Upstream false",
+    "sent PUT /e HTTP/1.1\\r\\nhost: h.example\\r\\nexpect: 100-continue\\r\\n\
+        content-length: 5\\r\\n\\r\\nhello",
+    "log new_ctx ok",
+];
+
 #[test]
-fn tries_again_at_every_write_to_the_first_link(rt: HostRuntime) -> Result<(), Fail> {
-    let alloc = rt.alloc();
+fn tries_again_at_every_write_to_the_first_link(rt: HostRuntime) -> Result<(), AllocError> {
     for call in 0..ALL_WRITES {
-        let ran = run_to_write(alloc, call)?;
-        let again = is_tried_again(&ran, call >= HEAD_WRITES);
-        assert!(rt; again, "at {call}");
-        assert_eq!(rt; ran.sent.len(), taken_before(call), "at {call}");
+        assert!(rt; tries_again_at_write(rt.alloc(), call)?, "at {call}");
     }
-    for call in ALL_WRITES..WRITES {
-        let ran = run_to_write(alloc, call)?;
-        assert!(rt; is_unanswered(alloc, &ran)?, "at {call}");
-    }
+    let told = WRITES.reports_at_write(rt.alloc(), ALL_WRITES, &UNANSWERED)?;
+    assert!(rt; told);
     Ok(())
 }
 
-/// An upload in chunks of one byte each.
-const CHUNKED: &[u8] = b"PUT /c HTTP/1.1\r\nHost: h.example\r\nTransfer-Encoding: chunked\r\n\r\n";
+/// An upload in chunks of one byte each, before the bytes of the first peer; the second answers at
+/// once.
+const CHUNKS: Sweep = Sweep {
+    schedule: TURNS,
+    front: "],\"client\":[{\"text\":\"PUT /c HTTP/1.1\\r\\nHost: h.example\\r\\n\
+        Transfer-Encoding: chunked\\r\\n\\r\\n\"},{\"text\":\"1\\r\\nh\\r\\n\"},\
+        {\"text\":\"1\\r\\ne\\r\\n\"},{\"text\":\"1\\r\\nl\\r\\n\"},{\"text\":\"1\\r\\nl\\r\\n\"},\
+        {\"text\":\"1\\r\\no\\r\\n\"},{\"text\":\"0\\r\\n\\r\\n\"}],\
+        \"peers\":[{\"name\":\"a\",\"read\":[",
+    fault: "{\"fault\":\"Read\",\"retry\":true},",
+    back: "{\"after\":0}]},{\"name\":\"b\",\"read\":[\
+        {\"text\":\"HTTP/1.1 200 OK\\r\\nContent-Length: 2\\r\\n\\r\\nhi\"}]}]}",
+};
 
-const CHUNKED_SENT: &[u8] =
-    b"PUT /c HTTP/1.1\r\nhost: h.example\r\ntransfer-encoding: chunked\r\n\r\n";
+/// The head of the first peer's answer.
+const CHUNKS_FIRST: &[u8] = b"HTTP/1.1 200 OK\r\nContent-Length: 2\r\n\r\n";
 
-const CHUNKS: [&[u8]; 6] = [
-    b"1\r\nh\r\n",
-    b"1\r\ne\r\n",
-    b"1\r\nl\r\n",
-    b"1\r\nl\r\n",
-    b"1\r\no\r\n",
-    b"0\r\n\r\n",
+/// What the second peer is sent where so many bytes of the body were read before: those are one
+/// chunk, so none and one look alike.
+const JOINED: [&str; 6] = [
+    "sent PUT /c HTTP/1.1\\r\\nhost: h.example\\r\\ntransfer-encoding: chunked\\r\\n\\r\\n\
+        1\\r\\nh\\r\\n1\\r\\ne\\r\\n1\\r\\nl\\r\\n1\\r\\nl\\r\\n1\\r\\no\\r\\n0\\r\\n\\r\\n",
+    "sent PUT /c HTTP/1.1\\r\\nhost: h.example\\r\\ntransfer-encoding: chunked\\r\\n\\r\\n\
+        1\\r\\nh\\r\\n1\\r\\ne\\r\\n1\\r\\nl\\r\\n1\\r\\nl\\r\\n1\\r\\no\\r\\n0\\r\\n\\r\\n",
+    "sent PUT /c HTTP/1.1\\r\\nhost: h.example\\r\\ntransfer-encoding: chunked\\r\\n\\r\\n\
+        2\\r\\nhe\\r\\n1\\r\\nl\\r\\n1\\r\\nl\\r\\n1\\r\\no\\r\\n0\\r\\n\\r\\n",
+    "sent PUT /c HTTP/1.1\\r\\nhost: h.example\\r\\ntransfer-encoding: chunked\\r\\n\\r\\n\
+        3\\r\\nhel\\r\\n1\\r\\nl\\r\\n1\\r\\no\\r\\n0\\r\\n\\r\\n",
+    "sent PUT /c HTTP/1.1\\r\\nhost: h.example\\r\\ntransfer-encoding: chunked\\r\\n\\r\\n\
+        4\\r\\nhell\\r\\n1\\r\\no\\r\\n0\\r\\n\\r\\n",
+    "sent PUT /c HTTP/1.1\\r\\nhost: h.example\\r\\ntransfer-encoding: chunked\\r\\n\\r\\n\
+        5\\r\\nhello\\r\\n0\\r\\n\\r\\n",
 ];
 
-/// The first bytes of the body as one chunk.
-const JOINED: [&[u8]; 6] = [
-    b"",
-    b"1\r\nh\r\n",
-    b"2\r\nhe\r\n",
-    b"3\r\nhel\r\n",
-    b"4\r\nhell\r\n",
-    b"5\r\nhello\r\n",
-];
-
-/// What a peer is sent of it where so many bytes were read before.
-fn chunks_sent(alloc: Global, read: usize) -> Result<Vec<u8>, AllocError> {
-    let mut text = Vec::from_slice(alloc, CHUNKED_SENT)?;
-    if let Some(joined) = JOINED.get(read) {
-        text.extend_from_slice(joined)?;
-    }
-    for (place, chunk) in CHUNKS.iter().enumerate() {
-        if place >= read {
-            text.extend_from_slice(chunk)?;
-        }
-    }
-    Ok(text)
+/// Whether the second peer is sent this where the first link fails behind so many bytes.
+fn sends_again(alloc: Global, at: usize, sent: &'static str) -> Result<bool, AllocError> {
+    let mut lines = BY_SECOND;
+    lines[4] = "written HTTP/1.1 200 OK\\r\\ncontent-length: 2\\r\\n\\r\\nhi";
+    lines[6] = "sent ~PUT /c HTTP/1.1\\r\\nhost: h.example\\r\\n\
+        transfer-encoding: chunked\\r\\n\\r\\n\
+        1\\r\\nh\\r\\n1\\r\\ne\\r\\n1\\r\\nl\\r\\n1\\r\\nl\\r\\n1\\r\\no\\r\\n0\\r\\n\\r\\n";
+    lines[8] = sent;
+    CHUNKS.reports_at_read(alloc, CHUNKS_FIRST, at, &lines)
 }
 
-/// The upload over a first link that gives its answer byte by byte and fails at that read, and a
-/// second one that answers it whole.
-fn run_chunks(alloc: Global, call: usize) -> Result<Ran, Fail> {
-    let mut items = vec![in alloc; bytes_item(CHUNKED)]?;
-    for chunk in CHUNKS {
-        items.push(bytes_item(chunk))?;
-    }
-    let client = ScriptLink::new(alloc, items, Vec::new(alloc));
-    let mut first = Vec::new(alloc);
-    push_bytes(alloc, &mut first, FIRST)?;
-    let second = vec![in alloc; bytes_item(SECOND)]?;
-    let mut peers = Vec::new(alloc);
-    peers.push(marked_link(alloc, first, Failing::Read(call), true)?)?;
-    peers.push(ScriptLink::new(alloc, second, Vec::new(alloc)))?;
-    run_over(alloc, client, peers, in_turn(alloc, &TURNS, 200)?)
-}
-
-const CHUNKS_ANSWERED: &[u8] = b"HTTP/1.1 200 OK\r\ncontent-length: 2\r\n\r\nhi";
-
-/// How many bytes of the body were read before the second attempt, which sent the upload whole;
-/// none where it did not.
-fn read_before(alloc: Global, call: usize) -> Result<Option<usize>, Fail> {
-    let ran = run_chunks(alloc, call)?;
-    if !chunks_sent(alloc, 0)?.starts_with(&ran.sent) {
-        return Ok(None);
-    }
-    for read in 0..JOINED.len() {
-        if ran.is_relayed_again(CHUNKS_ANSWERED, &chunks_sent(alloc, read)?) {
+/// How many bytes of the body were read before the second attempt, which sent the upload whole, at
+/// least so many; none where it did not.
+fn read_before(alloc: Global, at: usize, least: usize) -> Result<Option<usize>, AllocError> {
+    for (read, sent) in JOINED.iter().enumerate().skip(least) {
+        if sends_again(alloc, at, sent)? {
             return Ok(Some(read));
         }
     }
@@ -245,15 +280,12 @@ fn read_before(alloc: Global, call: usize) -> Result<Option<usize>, Fail> {
 }
 
 #[test]
-fn sends_chunks_that_were_read_again_as_one(rt: HostRuntime) -> Result<(), Fail> {
-    let alloc = rt.alloc();
-    let mut before = 0;
-    for call in 0..38usize {
-        let read = read_before(alloc, call)?;
+fn sends_chunks_that_were_read_again_as_one(rt: HostRuntime) -> Result<(), AllocError> {
+    let mut before = Some(0);
+    for at in 0..CHUNKS_FIRST.len() {
         // the later the first link fails, the more was read
-        assert!(rt; read >= Some(before), "at {call}");
-        before = read.unwrap_or(0);
+        before = read_before(rt.alloc(), at, before.unwrap_or(JOINED.len()))?;
     }
-    assert_eq!(rt; before, 5);
+    assert!(rt; before == Some(5));
     Ok(())
 }

@@ -1,5 +1,6 @@
 //! What a script is read as where no report shows it: its turns, each branch of its schedule, and
 //! how many peers, requests and attempts it may have.
+use super::support::repeated;
 use relay_json::{ScriptError, read_script};
 use relay_links::{BRANCHES, Branch};
 use std::alloc::{AllocError, Global};
@@ -35,24 +36,15 @@ fn reads_its_turns_and_each_branch_by_its_name(rt: HostRuntime) {
     assert!(rt; spells(alloc, FULL, 7, &[Branch::UpRead]));
 }
 
-/// How many peers, requests and attempts a script has of so many peers, and with such a key where a
-/// number is given; none where it is refused.
+/// How many peers, requests and attempts a script has of so many peers and these further keys; none
+/// where it is refused.
 fn counted(
     alloc: Global,
     peers: usize,
-    key: &str,
-    number: Option<u64>,
+    keys: &str,
 ) -> Result<Option<(usize, u64, usize)>, AllocError> {
-    let mut text = "{\"client\":[],\"peers\":[".to_string(alloc)?;
-    for at in 0..peers {
-        text.push_str(if at == 0 { "" } else { "," })?;
-        text.push_str("{\"name\":\"a\"}")?;
-    }
-    text.push_str("]")?;
-    if let Some(number) = number {
-        text.push_str(format!(in alloc; ",\"{key}\":{number}")?.as_str())?;
-    }
-    text.push_str("}")?;
+    let more = repeated(alloc, "{\"name\":\"a\"},", peers)?;
+    let text = format!(in alloc; "{{\"client\":[],\"peers\":[{more}{{\"name\":\"a\"}}]{keys}}}")?;
     match read_script(alloc, text.as_bytes()) {
         Ok(script) => Ok(Some((script.peers.len(), script.requests, script.retries.most()))),
         Err(ScriptError::Refused | ScriptError::HookNotCalled) => Ok(None),
@@ -60,26 +52,25 @@ fn counted(
     }
 }
 
-#[test]
-fn reads_up_to_1024_peers_and_requests(rt: HostRuntime) -> Result<(), AllocError> {
-    let alloc = rt.alloc();
-    let key = "requests";
-    assert_eq!(rt; counted(alloc, 0, key, None)?, Some((0, 1, 2)));
-    assert_eq!(rt; counted(alloc, 2, key, Some(1_024))?, Some((2, 1_024, 2)));
-    assert_eq!(rt; counted(alloc, 1_024, key, Some(1))?, Some((1_024, 1, 2)));
-    assert_eq!(rt; counted(alloc, 1_025, key, None)?, None);
-    assert_eq!(rt; counted(alloc, 1, key, Some(0))?, None);
-    assert_eq!(rt; counted(alloc, 1, key, Some(1_025))?, None);
-    Ok(())
-}
+/// How many peers there are beside one, further keys, and what they are read as.
+const COUNTED: [(usize, &str, Option<(usize, u64, usize)>); 10] = [
+    (0, "", Some((1, 1, 2))),
+    (1_023, ",\"requests\":1", Some((1_024, 1, 2))),
+    (1_024, "", None),
+    (1, ",\"requests\":1024", Some((2, 1_024, 2))),
+    (0, ",\"requests\":0", None),
+    (0, ",\"requests\":1025", None),
+    (0, ",\"retries\":1", Some((1, 1, 1))),
+    (0, ",\"retries\":1024", Some((1, 1, 1_024))),
+    (0, ",\"retries\":0", None),
+    (0, ",\"retries\":1025", None),
+];
 
 #[test]
-fn reads_up_to_1024_attempts(rt: HostRuntime) -> Result<(), AllocError> {
-    let alloc = rt.alloc();
-    let key = "retries";
-    assert_eq!(rt; counted(alloc, 1, key, Some(1))?, Some((1, 1, 1)));
-    assert_eq!(rt; counted(alloc, 1, key, Some(1_024))?, Some((1, 1, 1_024)));
-    assert_eq!(rt; counted(alloc, 1, key, Some(0))?, None);
-    assert_eq!(rt; counted(alloc, 1, key, Some(1_025))?, None);
+fn reads_up_to_1024_peers_requests_and_attempts(rt: HostRuntime) -> Result<(), AllocError> {
+    for (peers, keys, wanted) in COUNTED {
+        let is_so = counted(rt.alloc(), peers, keys)? == wanted;
+        assert!(rt; is_so, "{peers} and one peers{keys}");
+    }
     Ok(())
 }

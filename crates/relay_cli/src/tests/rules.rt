@@ -1,280 +1,117 @@
-//! What the rules of a script are read as and which are refused, and how a log is printed.
-use bytes::Bytes;
-use http_header::{HOST, HeaderName};
-use relay_command::{RequestReport, log_lines, report_text};
-use relay_json::{ScriptError, listed, read_script};
-use relay_proxy::Outcome;
-use relay_script::{Action, Rule};
-use relay_tasks::{Error, ErrorType, Hook, Item, LogEntry, PhaseLog, RetryType, TaskList, View};
-use serde_json::Value;
-use std::alloc::Global;
-use std::test::Fail;
+//! What the rules of a script are read as where no report shows it: those on hooks that are not
+//! called yet, and the types of errors.
+use super::support::reports;
+use relay_json::{ScriptError, read_script};
+use std::alloc::{AllocError, Global};
 
-/// The one rule of a list that a text spells, whatever hooks are called.
-fn rule_of(alloc: Global, text: &str) -> Result<Rule, Fail> {
-    let value = Value::from_str(alloc, text)?;
-    let mut rules = listed(alloc, &value)?;
-    Ok(rules.pop().ok_or("no rule")?)
-}
-
-/// Whether the action sets that field to that value.
-fn sets(action: &Action, field: &HeaderName, to: &[u8]) -> bool {
-    let Action::Set { name, value } = action else {
-        return false;
-    };
-    name == field && value.as_bytes() == to
-}
-
-/// Whether the action injects so many messages in each direction.
-fn injects(action: &Action, to_upstream: usize, to_downstream: usize) -> bool {
-    let Action::Inject { up, down } = action else {
-        return false;
-    };
-    up.len() == to_upstream && down.len() == to_downstream
-}
-
-#[test]
-fn reads_rules_on_heads(rt: HostRuntime) -> Result<(), Fail> {
-    let set = r#"[{"hook":"module_request_header","do":"set","name":"Host","value":"b"}]"#;
-    let rule = rule_of(rt.alloc(), set)?;
-    assert_eq!(rt; rule.hook, Hook::ModuleRequestHeader);
-    assert!(rt; sets(&rule.action, &HOST, b"b"));
-    let remove = r#"[{"do":"remove","name":"host","hook":"upstream_request_filter"}]"#;
-    let rule = rule_of(rt.alloc(), remove)?;
-    assert_eq!(rt; rule.hook, Hook::UpstreamRequestFilter);
-    assert!(rt; matches!(&rule.action, Action::Remove { name } if *name == HOST));
-    let status = r#"[{"hook":"response_filter","do":"status","code":418}]"#;
-    let rule = rule_of(rt.alloc(), status)?;
-    assert_eq!(rt; rule.hook, Hook::ResponseFilter);
-    assert!(rt; matches!(&rule.action, Action::Status(418)));
-    Ok(())
-}
-
-#[test]
-fn reads_rules_on_bodies_and_messages(rt: HostRuntime) -> Result<(), Fail> {
-    let text = r#"[{"hook":"response_body_filter","do":"text","value":"h"}]"#;
-    let rule = rule_of(rt.alloc(), text)?;
-    assert_eq!(rt; rule.hook, Hook::ResponseBodyFilter);
-    assert!(rt; matches!(&rule.action, Action::Text(text) if text.as_slice() == b"h".as_slice()));
-    let dropped = r#"[{"hook":"request_body_filter","do":"drop"}]"#;
-    let rule = rule_of(rt.alloc(), dropped)?;
-    assert_eq!(rt; rule.hook, Hook::RequestBodyFilter);
-    assert!(rt; matches!(&rule.action, Action::Drop));
-    let inject = r#"[{"hook":"custom_forwarding","do":"inject","up":["a",""],"down":[]}]"#;
-    let rule = rule_of(rt.alloc(), inject)?;
-    assert_eq!(rt; rule.hook, Hook::CustomForwarding);
-    assert!(rt; injects(&rule.action, 2, 0));
-    Ok(())
-}
-
-#[test]
-fn reads_rules_on_answers(rt: HostRuntime) -> Result<(), Fail> {
-    let answer = r#"[{"hook":"request_filter","do":"answer","code":403,"say":true}]"#;
-    let rule = rule_of(rt.alloc(), answer)?;
-    assert_eq!(rt; rule.hook, Hook::RequestFilter);
-    assert!(rt;
-        matches!(
-            rule.action,
-            Action::Answer {
-                code: 403,
-                say: true
-            }
-        )
-    );
-    let retry = r#"[{"hook":"fail_to_connect","do":"retry","on":"reused"}]"#;
-    let rule = rule_of(rt.alloc(), retry)?;
-    assert_eq!(rt; rule.hook, Hook::FailToConnect);
-    assert!(rt; matches!(&rule.action, Action::Retry(RetryType::ReusedOnly)));
-    let say = r#"[{"hook":"is_purge","do":"say","on":false}]"#;
-    let rule = rule_of(rt.alloc(), say)?;
-    assert_eq!(rt; rule.hook, Hook::IsPurge);
-    assert!(rt; matches!(&rule.action, Action::Say(false)));
-    let keep = r#"[{"hook":"persist_connection_context","do":"keep","value":4294967295}]"#;
-    let rule = rule_of(rt.alloc(), keep)?;
-    assert_eq!(rt; rule.hook, Hook::PersistConnectionContext);
-    assert!(rt; matches!(&rule.action, Action::Keep(4_294_967_295)));
-    Ok(())
-}
-
-/// The type of the error of a rule; none where it is refused.
-fn error_of(alloc: Global, etype: &str) -> Result<Option<ErrorType>, Fail> {
-    let text = format!(in alloc; r#"[{{"hook":"request_filter","do":"error","type":"{etype}"}}]"#)?;
-    let value = Value::from_str(alloc, text.as_str())?;
-    let Ok(mut rules) = listed(alloc, &value) else {
-        return Ok(None);
-    };
-    let rule = rules.pop().ok_or("no rule")?;
-    let Action::Error(etype) = rule.action else {
-        return Ok(None);
-    };
-    Ok(Some(etype))
-}
-
-#[test]
-fn reads_types_of_errors_as_they_are_written(rt: HostRuntime) -> Result<(), Fail> {
-    let alloc = rt.alloc();
-    let types = [
-        ("ReadError", Some(ErrorType::ReadError)),
-        ("H2Downgrade", Some(ErrorType::H2Downgrade)),
-        ("HTTPStatus(403)", Some(ErrorType::HTTPStatus(403))),
-        ("Custom(0)", Some(ErrorType::Custom(0))),
-        ("Custom(65535)", Some(ErrorType::Custom(65_535))),
-        ("Custom(65536)", None),
-        ("Custom(07)", None),
-        ("Custom(+7)", None),
-        ("Custom()", None),
-        ("Custom(7", None),
-        ("Custom", None),
-        ("HTTPStatus 403", None),
-        ("readerror", None),
-        ("", None),
-    ];
-    for (text, etype) in types {
-        assert_eq!(rt; error_of(alloc, text)?, etype, "at {text}");
-    }
-    Ok(())
-}
-
-/// How many rules a script of these hooks has, or why it is refused.
-fn taken(alloc: Global, hooks: &str) -> Result<Result<usize, ScriptError>, Fail> {
+/// Why a script of these hooks is refused; none where it is not.
+fn refusal(alloc: Global, hooks: &str) -> Result<Option<ScriptError>, AllocError> {
     let text = format!(in alloc; r#"{{"client":[],"peers":[],"hooks":{hooks}}}"#)?;
-    Ok(read_script(alloc, text.as_bytes()).map(|script| script.rules.as_slice().len()))
+    match read_script(alloc, text.as_bytes()) {
+        Ok(_) => Ok(None),
+        Err(error) => Ok(Some(error)),
+    }
 }
 
-const TAKEN: [(&str, usize); 8] = [
-    ("[]", 0),
-    (
-        r#"[{"hook":"early_request_filter","do":"error","type":"ReadError"}]"#,
-        1,
-    ),
+/// Rules that are taken; one of each action that stands on such hooks alone, as it is written; and
+/// these with a key that is not theirs, without one, and on a hook that is not theirs.
+const HOOKS: [(&str, Option<ScriptError>); 11] = [
     (
         r#"[{"hook":"proxy_upstream_filter","do":"say","on":false}]"#,
-        1,
+        None,
     ),
     (
-        "[{\"hook\":\"is_purge\",\"do\":\"say\",\"on\":true},\
-      {\"hook\":\"purge_response_filter\",\"do\":\"remove\",\"name\":\"a\"},\
-      {\"hook\":\"module_request_header\",\"do\":\"remove\",\"name\":\"a\"}]",
-        3,
+        r#"[{"hook":"purge_response_filter","do":"remove","name":"a"}]"#,
+        None,
     ),
     (
-        "[{\"hook\":\"upstream_peer\",\"do\":\"error\",\"type\":\"Custom(7)\"},\
-      {\"hook\":\"connected_to_upstream\",\"do\":\"error\",\"type\":\"Custom(8)\"},\
-      {\"hook\":\"upstream_request_filter\",\"do\":\"remove\",\"name\":\"a\"}]",
-        3,
+        r#"[{"hook":"response_filter","do":"status","code":418}]"#,
+        Some(ScriptError::HookNotCalled),
     ),
     (
-        r#"[{"hook":"error_while_proxy","do":"retry","on":"reused"}]"#,
-        1,
+        r#"[{"hook":"response_body_filter","do":"text","value":"h"}]"#,
+        Some(ScriptError::HookNotCalled),
     ),
     (
-        "[{\"hook\":\"fail_to_connect\",\"do\":\"retry\",\"on\":true},\
-      {\"hook\":\"suppress_proxy_warn_log\",\"do\":\"say\",\"on\":true}]",
-        2,
+        r#"[{"hook":"request_body_filter","do":"drop"}]"#,
+        Some(ScriptError::HookNotCalled),
     ),
     (
-        "[{\"hook\":\"suppress_error_log\",\"do\":\"say\",\"on\":true},\
-      {\"hook\":\"persist_connection_context\",\"do\":\"keep\",\"value\":7}]",
-        2,
+        r#"[{"hook":"custom_forwarding","do":"inject","up":["a",""],"down":[]}]"#,
+        Some(ScriptError::HookNotCalled),
     ),
-];
-
-/// No list, unknown names, keys and values, numbers out of range, and rules that break a condition.
-const REFUSED: [&str; 16] = [
-    "{}",
-    "[1]",
-    r#"[{"hook":"filter","do":"drop"}]"#,
-    r#"[{"hook":"RequestFilter","do":"error","type":"ReadError"}]"#,
-    r#"[{"hook":"is_purge","do":"hum","on":true}]"#,
-    r#"[{"hook":"is_purge","do":"say","on":true,"why":1}]"#,
-    r#"[{"hook":"is_purge","do":"say"}]"#,
-    r#"[{"do":"say","on":true}]"#,
-    r#"[{"hook":"is_purge","do":"say","on":1}]"#,
-    r#"[{"hook":"module_request_header","do":"remove","name":"a b"}]"#,
-    r#"[{"hook":"module_request_header","do":"set","name":"a","value":"b\n"}]"#,
-    r#"[{"hook":"request_filter","do":"answer","code":65536,"say":true}]"#,
-    r#"[{"hook":"request_filter","do":"answer","code":199,"say":true}]"#,
-    r#"[{"hook":"request_filter","do":"answer","code":403,"say":false}]"#,
-    r#"[{"hook":"is_purge","do":"drop"}]"#,
-    "[{\"hook\":\"request_filter\",\"do\":\"answer\",\"code\":403,\"say\":true},\
-      {\"hook\":\"request_filter\",\"do\":\"error\",\"type\":\"ReadError\"}]",
+    (
+        r#"[{"hook":"response_filter","do":"status","value":418}]"#,
+        Some(ScriptError::Refused),
+    ),
+    (
+        r#"[{"hook":"response_body_filter","do":"text"}]"#,
+        Some(ScriptError::Refused),
+    ),
+    (
+        r#"[{"hook":"request_body_filter","do":"drop","on":true}]"#,
+        Some(ScriptError::Refused),
+    ),
+    (
+        r#"[{"hook":"custom_forwarding","do":"inject","up":["a",""],"down":7}]"#,
+        Some(ScriptError::Refused),
+    ),
+    (
+        r#"[{"hook":"custom_forwarding","do":"drop"}]"#,
+        Some(ScriptError::Refused),
+    ),
 ];
 
 #[test]
-fn takes_rules_on_hooks_that_are_called(rt: HostRuntime) -> Result<(), Fail> {
-    let alloc = rt.alloc();
-    for (hooks, rules) in TAKEN {
-        assert_eq!(rt; taken(alloc, hooks)?, Ok(rules), "at {hooks}");
+fn tells_rules_on_hooks_that_are_not_called(rt: HostRuntime) -> Result<(), AllocError> {
+    for (hooks, wanted) in HOOKS {
+        let told = refusal(rt.alloc(), hooks)? == wanted;
+        assert!(rt; told, "at {hooks}");
     }
-    for hooks in REFUSED {
-        assert_eq!(rt;
-            taken(alloc, hooks)?,
-            Err(ScriptError::Refused),
-            "at {hooks}"
-        );
-    }
-    let later = r#"[{"hook":"response_filter","do":"status","code":418}]"#;
-    assert_eq!(rt; taken(alloc, later)?, Err(ScriptError::HookNotCalled));
     Ok(())
 }
 
-/// An entry of a log.
-fn entry(alloc: Global, hook: Hook, output: Item, error: Option<Error>) -> LogEntry {
-    LogEntry {
-        mark_before: 0,
-        mark_after: 0,
-        input: Item::Nothing,
-        output,
-        wrote: TaskList::new(alloc),
-        head: None,
-        delay: None,
-        keepalive: true,
-        error,
-        view: View {
-            final_head: false,
-            truncated: false,
-            upgraded: false,
-        },
-        hook,
+/// A request that a hook fails, before the type of its error.
+const FAILS: &str = "{\"client\":[{\"text\":\"GET /a HTTP/1.1\\r\\nHost: h.example\\r\\n\\r\\n\"}],\
+    \"peers\":[],\"hooks\":[{\"hook\":\"early_request_filter\",\"do\":\"error\",\"type\":\"";
+
+/// Whether a request fails with an error of this type as the report writes it, or the script is
+/// refused.
+fn is_read(alloc: Global, etype: &str, taken: bool) -> Result<bool, AllocError> {
+    let parts = [FAILS, etype, "\"}]}"];
+    if !taken {
+        return reports(alloc, &parts, &["2 script refused"]);
     }
+    let error = format!(in alloc; "error {etype} Unset false")?;
+    reports(
+        alloc,
+        &parts,
+        &["0 request 1", "outcome Served", error.as_str()],
+    )
 }
 
-const PRINTED: &[u8] = b"request 1\noutcome Served\nerror -\nreuse yes\nwritten \n\
-    log new_ctx ok\n\
-    log early_request_filter err HTTPStatus(403)\n\
-    log allow_spawning_subrequest false\n\
-    log module_request_header err ReadError\n\
-    log proxy_upstream_filter true\n\
-    log error_while_proxy ok\n";
+/// Types of errors as a report writes them, and texts that are none.
+const TYPES: [(&str, bool); 14] = [
+    ("ReadError", true),
+    ("H2Downgrade", true),
+    ("HTTPStatus(403)", true),
+    ("Custom(0)", true),
+    ("Custom(65535)", true),
+    ("Custom(65536)", false),
+    ("Custom(07)", false),
+    ("Custom(+7)", false),
+    ("Custom()", false),
+    ("Custom(7", false),
+    ("Custom", false),
+    ("HTTPStatus 403", false),
+    ("readerror", false),
+    ("", false),
+];
 
 #[test]
-fn prints_a_log_behind_the_attempts(rt: HostRuntime) -> Result<(), Fail> {
-    let alloc = rt.alloc();
-    let status = Some(Error::new(ErrorType::HTTPStatus(403)));
-    let broken = Some(Error::new_up(ErrorType::ReadError));
-    let mut log = PhaseLog::new(alloc);
-    log.push(entry(alloc, Hook::NewCtx, Item::Nothing, None))?;
-    log.push(entry(alloc, Hook::EarlyRequestFilter, Item::Nothing, status))?;
-    log.push(entry(
-        alloc,
-        Hook::AllowSpawningSubrequest,
-        Item::Answer(false),
-        None,
-    ))?;
-    log.push(entry(alloc, Hook::ModuleRequestHeader, Item::Nothing, broken))?;
-    log.push(entry(alloc, Hook::ProxyUpstreamFilter, Item::Answer(true), None))?;
-    let treated = Item::Failure(Error::new_up(ErrorType::ReadError));
-    log.push(entry(alloc, Hook::ErrorWhileProxy, treated, None))?;
-    let mut requests = Vec::new(alloc);
-    requests.push(RequestReport {
-        outcome: Outcome::Served {
-            error: None,
-            reuse: true,
-        },
-        written: Bytes::new(),
-        attempts: Vec::new(alloc),
-        log: log_lines(alloc, &log)?,
-    })?;
-    assert_eq!(rt; report_text(alloc, &requests)?.as_slice(), PRINTED);
+fn reads_types_of_errors_as_they_are_written(rt: HostRuntime) -> Result<(), AllocError> {
+    for (etype, taken) in TYPES {
+        assert!(rt; is_read(rt.alloc(), etype, taken)?, "at {etype}");
+    }
     Ok(())
 }
