@@ -111,7 +111,7 @@ fn may_follow(front: &[u8], byte: u8) -> bool {
 
 /// Whether the text is an authority: each byte may follow those in front of it, and the whole
 /// closes its bracket and ends in a host with one port at most.
-pub fn is_authority(text: &[u8]) -> bool {
+fn is_authority(text: &[u8]) -> bool {
     for (i, byte) in text.iter().enumerate() {
         if !may_follow(text.split_at(i).0, *byte) {
             return false;
@@ -168,7 +168,7 @@ pub fn validated(target: Target<'_>, host: Option<&[u8]>) -> Option<Context> {
 }
 
 /// The Host that a head of this target and this Host gets.
-pub fn host_set<'a>(target: Target<'a>, host: Option<&'a [u8]>) -> Result<&'a [u8], Context> {
+fn host_set<'a>(target: Target<'a>, host: Option<&'a [u8]>) -> Result<&'a [u8], Context> {
     match target {
         Target::Whole {
             text: _,
@@ -191,7 +191,7 @@ pub fn host_set<'a>(target: Target<'a>, host: Option<&'a [u8]>) -> Result<&'a [u
 }
 
 /// The target once it says what Host says.
-pub fn reconciled<'a>(target: Target<'a>, host: &'a [u8]) -> Result<Target<'a>, Context> {
+fn reconciled<'a>(target: Target<'a>, host: &'a [u8]) -> Result<Target<'a>, Context> {
     if has_at(host) {
         return Err(Context::UserinfoHost);
     }
@@ -218,7 +218,7 @@ pub fn reconciled<'a>(target: Target<'a>, host: &'a [u8]) -> Result<Target<'a>, 
 }
 
 /// The path over HTTP/2 behind its first byte, up to a fragment; that byte is `/`, but in `*`.
-pub fn path(target: Target<'_>) -> Result<&[u8], Context> {
+fn path(target: Target<'_>) -> Result<&[u8], Context> {
     match target {
         Target::Whole { text, unclear } => {
             if unclear {
@@ -245,7 +245,7 @@ pub fn path(target: Target<'_>) -> Result<&[u8], Context> {
 }
 
 /// Why the raw host cannot stand in a URI, if it cannot.
-pub fn raw_host_fault(host: &[u8]) -> Option<Context> {
+fn raw_host_fault(host: &[u8]) -> Option<Context> {
     if !is_authority(host) {
         return Some(Context::HostInvalid);
     }
