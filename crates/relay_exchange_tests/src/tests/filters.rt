@@ -44,6 +44,21 @@ fn held(app: &App<Changes>, alloc: Global, made: bool) -> Result<Session<NoModul
     Ok(Session::new_h1_unmade(alloc, stand_in))
 }
 
+/// The side of a client whose request has a body in that framing.
+fn inner(alloc: Global, framing: Framing) -> Result<ClientSide> {
+    Ok(ClientSide::new(alloc, session(alloc, framing)?))
+}
+
+/// The side behind that application over that of a client, whose request has ended or not.
+fn over<'a>(
+    app: &'a App<Changes>,
+    held: Session<NoModules>,
+    inner: ClientSide,
+    ended: bool,
+) -> Side<'a> {
+    Hooked::new::<Client>(app, held, app.new_ctx(), inner, ended, false)
+}
+
 /// The side behind that application of a request with a body in that framing, which has ended or
 /// not.
 fn side<'a>(
@@ -53,9 +68,9 @@ fn side<'a>(
     made: bool,
     ended: bool,
 ) -> Result<Side<'a>> {
+    let inner = inner(alloc, framing)?;
     let held = held(app, alloc, made)?;
-    let inner = ClientSide::new(alloc, session(alloc, framing)?);
-    Ok(Hooked::new::<Client>(app, held, app.new_ctx(), inner, ended, false))
+    Ok(over(app, held, inner, ended))
 }
 
 /// Lets go of a value.
@@ -119,11 +134,13 @@ fn ends_the_request_where_a_piece_is_taken_away(rt: HostRuntime) {
     assert!(rt; reads(&app(Does::Cuts), rt.alloc()) == wanted);
 }
 
-/// The side of a body of four bytes behind that application, where an attempt puts again two bytes
+/// The side behind that application over that of a client, where an attempt puts again two bytes
 /// that were read before, and what passes of them.
-fn again_side<'a>(app: &'a App<Changes>, alloc: Global) -> Result<(Side<'a>, Given)> {
-    let held = held(app, alloc, true)?;
-    let inner = ClientSide::new(alloc, session(alloc, Framing::Length(4))?);
+fn again_over<'a>(
+    app: &'a App<Changes>,
+    held: Session<NoModules>,
+    inner: ClientSide,
+) -> Result<(Side<'a>, Given)> {
     if !inner.session().has_head() {
         return Err(Fail::OutOfMemory);
     }
@@ -144,7 +161,9 @@ fn again_side<'a>(app: &'a App<Changes>, alloc: Global) -> Result<(Side<'a>, Giv
 /// entered.
 fn again(app: &App<Changes>, alloc: Global) -> Result<([Given; 3], usize)> {
     let mut client = client(alloc)?;
-    let (mut side, first) = again_side(app, alloc)?;
+    let inner = inner(alloc, Framing::Length(4))?;
+    let held = held(app, alloc, true)?;
+    let (mut side, first) = again_over(app, held, inner)?;
     let second = read(&mut side, &mut client);
     let third = read(&mut side, &mut client);
     Ok(([first, second, third], entered(side)))
@@ -182,6 +201,18 @@ fn batch(alloc: Global, response: Response) -> Result<TaskList> {
     Ok(tasks)
 }
 
+/// Gives that batch to the side.
+fn take(side: &mut Side<'_>, tasks: TaskList) -> Result<bool> {
+    Down::<Client>::take_batch(side, tasks, UpKind::H1)
+}
+
+/// Writes what waits, if anything does.
+fn write(side: &mut Side<'_>, client: &mut Client) {
+    if Down::<Client>::has_pending(side) {
+        let _ = side.write_pending(client);
+    }
+}
+
 /// What becomes of that batch at that side: the answer, how many calls were entered, and whether
 /// the client takes just that text.
 fn answer(
@@ -191,10 +222,8 @@ fn answer(
     text: &str,
 ) -> (Result<bool>, usize, bool) {
     let mut side = side;
-    let answer = Down::<Client>::take_batch(&mut side, tasks, UpKind::H1);
-    if Down::<Client>::has_pending(&side) {
-        let _put = side.write_pending(client);
-    }
+    let answer = take(&mut side, tasks);
+    write(&mut side, client);
     (answer, entered(side), has_taken(client.link(), text))
 }
 
@@ -273,7 +302,7 @@ fn three_pieces(alloc: Global) -> Result<TaskList> {
 fn delays(app: &App<Changes>, alloc: Global) -> Result<(u64, u64)> {
     let tasks = three_pieces(alloc)?;
     let mut side = side(app, alloc, Framing::Empty, true, true)?;
-    let _refused = Down::<Client>::take_batch(&mut side, tasks, UpKind::H1);
+    let _refused = take(&mut side, tasks);
     let first = side.take_delay();
     let second = side.take_delay();
     let _calls = entered(side);

@@ -92,24 +92,23 @@ fn ends_with(writing: &mut Writing, piece: &'static [u8], end: bool) -> Result<b
     Ok(writing.response_done())
 }
 
-/// Whether a response is written call by call: a piece before its head gives nothing, and one
-/// longer than what is left of the length is cut.
-fn writes_call_by_call(alloc: Global) -> Result<bool> {
-    let mut writing = response(alloc, Asks::Other, Version::HTTP_11);
-    let early = ends_with(&mut writing, b"early", true)? || writing.response_written();
+/// Whether a response is queued call by call: a piece before its head gives nothing, and one longer
+/// than what is left of the length is cut.
+fn queues(alloc: Global, writing: &mut Writing) -> Result<bool> {
+    let early = ends_with(writing, b"early", true)? || writing.response_written();
     let seven = HeaderValue::from_static("7");
     writing.write_response_header(head(alloc, CONTENT_LENGTH, seven)?)?;
-    let is_open = writing.response_written() && !ends_with(&mut writing, b"hello", false)?;
-    let ends = ends_with(&mut writing, b"world", false)?;
+    let is_open = writing.response_written() && !ends_with(writing, b"hello", false)?;
+    let ends = ends_with(writing, b"world", false)?;
     writing.finish_body()?;
+    Ok(!early && is_open && ends && writing.body_bytes_sent() == 7)
+}
+
+/// Whether it is written so.
+fn writes_call_by_call(alloc: Global) -> Result<bool> {
+    let mut writing = response(alloc, Asks::Other, Version::HTTP_11);
     let want = "HTTP/1.1 200 OK\r\ncontent-length: 7\r\n\r\nhellowo";
-    Ok(
-        !early
-            && is_open
-            && ends
-            && writing.body_bytes_sent() == 7
-            && writes(alloc, &mut writing, want)?,
-    )
+    Ok(queues(alloc, &mut writing)? && writes(alloc, &mut writing, want)?)
 }
 
 #[test]

@@ -113,18 +113,26 @@ fn writes(side: &mut ClientSide, client: &mut Client) -> bool {
         && !Down::<Client>::has_pending(side)
 }
 
+/// Whether a batch is taken that ends the response.
+fn takes(alloc: Global, side: &mut ClientSide) -> Result<bool> {
+    Down::<Client>::take_batch(side, tasks(alloc)?, UpKind::H1)
+}
+
+/// Whether the response is finished, and nothing more waits.
+fn finishes(side: &mut ClientSide) -> Result<bool> {
+    Down::<Client>::finish(side)?;
+    Ok(!Down::<Client>::has_pending(side) && Down::<Client>::told(side).errors == 0)
+}
+
 /// Whether a batch is taken and written, and its response finished.
 fn writes_batch(alloc: Global) -> Result<bool> {
     let mut client = client(alloc, "GET / HTTP/1.1\r\nHost: h\r\n\r\n", "")?;
     let mut side = side_of(alloc, &mut client);
-    let ends = Down::<Client>::take_batch(&mut side, tasks(alloc)?, UpKind::H1)?;
-    let is_written = writes(&mut side, &mut client);
-    Down::<Client>::finish(&mut side)?;
     let want = "HTTP/1.1 200 OK\r\ncontent-length: 5\r\n\r\nhello";
     Ok(
-        ends && is_written
-            && !Down::<Client>::has_pending(&side)
-            && Down::<Client>::told(&side).errors == 0
+        takes(alloc, &mut side)?
+            && writes(&mut side, &mut client)
+            && finishes(&mut side)?
             && has_taken(client.link(), want),
     )
 }
