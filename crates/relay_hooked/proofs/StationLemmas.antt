@@ -22,7 +22,7 @@ use Rattle.relay_filters.specs.Response.{BatchPasses, BatchStops}
 use Rattle.relay_filters.specs.Response as batches
 use Rattle.relay_filters.specs.Segments.{InSegments, LastCalls, RefusedIn, Segment, joined}
 use Rattle.relay_filters.specs.Segments as segments
-use Rattle.relay_hooked.specs.Stations.{Lands, Leads, MayFail, Relays}
+use Rattle.relay_hooked.specs.Stations.{Leads, MayFail, Relays}
 
 -- ---- one call
 

@@ -9,7 +9,7 @@ use Rattle.relay_h1.specs.Framing.{request_framing}
 use Rattle.relay_session.specs.Reading.{is_body_done}
 use Rattle.relay_session.specs.TaskWire.{bad_framing}
 use Rattle.relay_core.specs.Piece.{put_of}
-use Rattle.relay_sides.specs.Client.{begun_past, put_again}
+use Rattle.relay_sides.specs.Client.{begun_past}
 use Rattle.relay_peer.specs.Peer as peer
 use Rattle.relay_peer.specs.Peer.{none_passed}
 use Rattle.relay_peer.specs.declared.peer_side.PeerSide.{PeerSide}

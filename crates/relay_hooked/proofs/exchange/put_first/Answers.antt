@@ -14,7 +14,6 @@ use Rattle.relay_sides.specs.declared.client_side.ClientSide.{ClientSide}
 use Rattle.relay_filters.specs.Hooked.{put_by}
 use Rattle.relay_filters.specs.Request.{is_last}
 use Rattle.relay_filters.specs.Response.{SomeAllow}
-use Rattle.relay_hooked.specs.Begins.{kept_piece}
 use Rattle.relay_hooked.proofs.AppLemmas.{by_head}
 use Rattle.relay_hooked.proofs.BeginLemmas.{calls_by, calls_none, cannot_by, holds_on, last_is_end, puts_none}
 use Rattle.relay_hooked.proofs.exchange.put_first.Goals as goal
