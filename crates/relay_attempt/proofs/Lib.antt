@@ -5,6 +5,7 @@ pub mod AttemptLemmas
 pub mod OrderLemmas
 pub mod ShortLemmas
 pub mod KeepLemmas
+pub mod LastLemmas
 pub mod WriterLemmas
 pub mod EndLemmas
 pub mod TurnLemmas

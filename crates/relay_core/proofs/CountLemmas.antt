@@ -4,8 +4,7 @@
 --   adds_then    a step behind another
 --   adds_read    one read of the upstream
 --   adds_by      any other branch
-use Rattle.std.proofs.Common.{◌≡◌, ℕ, ◌+◌, ◌≤◌, Bool, true, false, ◌&&◌, ◌||◌, not, List, [], ◌∷◌, ◌++◌, length, length-append, append-nil, Option, Some, None, Result, Ok, Err, refl, sym, ap, ◌∙◌, subst, inl, inr, arith}
-use Rattle.std.specs.List.{list_any}
+use Rattle.std.proofs.Common.{◌≡◌, ◌+◌, ◌≤◌, Bool, true, false, ◌&&◌, ◌||◌, not, List, [], ◌∷◌, ◌++◌, length, length-append, append-nil, Option, Some, None, Result, Ok, Err, refl, sym, ap, ◌∙◌, subst, inl, inr, arith}
 use Rattle.relay_tasks.specs.declared.error.Error.{Error}
 use Rattle.relay_tasks.specs.declared.error.Fail.{Fail}
 use Rattle.relay_tasks.specs.declared.error.Fail.TheVariants as fail
@@ -23,17 +22,16 @@ use Rattle.relay_core.specs.declared.duplex.Duplex.{Duplex}
 use Rattle.relay_core.specs.declared.piece.Piece.{Piece}
 use Rattle.relay_core.specs.declared.step.Step.{Step}
 use Rattle.relay_core.specs.Batch.{batch_of, rest_of}
-use Rattle.relay_core.specs.Counts.{one_if, read_count, EndsStay, Adds}
+use Rattle.relay_core.specs.Counts.{one_if, EndsStay, Adds}
 use Rattle.relay_core.specs.Down.{DownState, ReadsPiece, TakesBatch, Finishes, accepts}
 use Rattle.relay_core.specs.Down as down
 use Rattle.relay_core.specs.Past.{UpPast, task_in}
 use Rattle.relay_core.specs.Piece.{put_of}
 use Rattle.relay_core.specs.State.{is_reading, is_response_done, finished}
-use Rattle.relay_core.specs.Steps.{StepsTo, UpReadsOn, with_requests, with_responses}
+use Rattle.relay_core.specs.Steps.{StepsTo, with_requests, with_responses}
 use Rattle.relay_core.specs.Table.{State, enabled, is_failed, failed, with_send_error, after_up_write, after_down_write, after_piece, with_piece_sent, after_up_take, with_upgrade, with_response_done, with_request_done, after_batch, with_task_read, after_up_read, after_down_read, after_up_finish, after_down_finish}
-use Rattle.relay_core.proofs.BoolLemmas.{clash, or_inl, not_true, and_left, and_right}
+use Rattle.relay_core.proofs.BoolLemmas.{clash, or_inl}
 use Rattle.relay_core.proofs.SoundLemmas.{enabled_sound}
-use Rattle.relay_core.proofs.RunsLemmas.{down_writes_body, down_ends_body}
 use Rattle.relay_core.proofs.MoveLemmas.{batch-rest}
 
 -- ---- the duplex

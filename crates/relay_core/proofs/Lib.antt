@@ -12,6 +12,7 @@ pub mod StuckLemmas
 pub mod DoneLemmas
 pub mod CountLemmas
 pub mod KeepLemmas
+pub mod LastLemmas
 pub mod StillLemmas
 pub mod MarkLemmas
 pub mod UpGoes

@@ -2,12 +2,11 @@
 --
 --   carries_on    one more step: the tasks that were moved are those put and taken
 --   ends_on       one more step: an end that came is left no more
-use Rattle.std.proofs.Common.{◌≡◌, ℕ, ◌+◌, ◌≤◌, ◌<◌, Bool, true, false, not, List, [], ◌∷◌, ◌++◌, length, length-append, refl, sym, ap, ◌∙◌, inl, inr, arith}
-use Rattle.relay_tasks.specs.declared.error.Error.{Error}
+use Rattle.std.proofs.Common.{◌≡◌, ℕ, ◌+◌, ◌≤◌, Bool, true, false, not, List, [], ◌∷◌, ◌++◌, length, length-append, refl, ap, ◌∙◌, inl, inr, arith}
 use Rattle.relay_tasks.specs.declared.task.HttpTask.{HttpTask}
 use Rattle.relay_links.specs.declared.branch.Branch.{Branch}
 use Rattle.relay_links.specs.declared.branch.Branch.TheVariants as branch
-use Rattle.relay_core.specs.Counts.{one_if, read_count, Carries, ends_left, EndsStay, Adds, CountsAs, moves_task, brings_end}
+use Rattle.relay_core.specs.Counts.{one_if, Carries, ends_left, EndsStay, Adds, CountsAs, moves_task, brings_end}
 use Rattle.relay_core.specs.Moves.{Extends}
 use Rattle.relay_core.specs.Past.{DownPast, UpPast}
 use Rattle.relay_core.specs.State.{is_reading, is_response_done}

@@ -128,3 +128,10 @@ abbrev pub Finishes : DownState → DownState → Result Unit Fail → Type 0
 Finishes before after (Ok done) = EndsBody before after
 Finishes before after (Err why) =
     after ≡ record before { pending = after.pending; told = failed why before.told }
+
+-- ---- what lasts
+
+-- a side came from another by calls, none or one behind the other, each of which leaves it so
+pub data Lasting {D : Type 0} (lasts : D → D → Type 0) (old : D) : D → Type 0 where
+  stays : Lasting lasts old old
+  goes_on : (mid new : D) → Lasting lasts old mid → lasts mid new → Lasting lasts old new

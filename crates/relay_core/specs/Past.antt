@@ -5,6 +5,7 @@ use Rattle.relay_tasks.specs.declared.error.Error.{Error}
 use Rattle.relay_tasks.specs.declared.error.ErrorSource.{ErrorSource}
 use Rattle.relay_tasks.specs.declared.error.Fail.{Fail}
 use Rattle.relay_tasks.specs.declared.error.Fail.TheVariants as fail
+use Rattle.relay_tasks.specs.declared.log.LogEntry.{LogEntry}
 use Rattle.relay_tasks.specs.declared.task.HttpTask.{HttpTask}
 use Rattle.relay_tasks.specs.declared.task.HttpTask.TheVariants as task
 use Rattle.relay_tasks.specs.Head.{RequestHead}
@@ -23,8 +24,8 @@ use Rattle.relay_core.specs.Told.{fault_of}
 -- where an exchange began: with the head that the client's bytes say, and the head that is sent
 -- upstream of it; whether both sides ask for an upgrade; where the client's link stood: the bytes
 -- that were read ahead from it, how many bytes it had given and taken, and how many of its calls
--- had failed; whether the upstream's link had been used before; and how many faults the client's
--- link had told of its reads and of its writes
+-- had failed; whether the upstream's link had been used before; how many faults the client's link
+-- had told of its reads and of its writes; and the calls of hooks that stood in the log
 pub record Origin : Type 0 where
   pub head : RequestHead
   pub sent : RequestHead
@@ -36,6 +37,7 @@ pub record Origin : Type 0 where
   pub reused : Bool
   pub read_faults : ℕ
   pub write_faults : ℕ
+  pub called : List LogEntry
 
 -- what passed through the client's side since its request began: the bytes that its link gave and
 -- took; the tasks that its pieces put; the tasks that it was given; and the ends of the response

@@ -23,8 +23,8 @@ use relay_tasks::{Pause, Result, TaskList, Took};
 /// from it. `blames` says that the side answers for an error, `refuses` that it refuses these tasks
 /// behind those that it was given, and `cannot_end` that the response cannot end where it stands.
 /// `link` is the client's link as it stands: what an answer waits for stands in it. `start` is that
-/// link as it was handed out, which no call changes. `kept` is what no call changes of the side
-/// itself, such as the head of its request.
+/// link as it was handed out, which no call changes. `lasts` says what each call leaves of the side
+/// as it was, such as the head of its request, and what it only adds to.
 pub trait Down<C> {
     ghost state: { Self → DownState };
 
@@ -40,9 +40,7 @@ pub trait Down<C> {
 
     ghost start: { C → LinkStart };
 
-    ghost Kept: { Type 0 };
-
-    ghost kept: { Self → Kept };
+    ghost lasts: { Self → Self → Type 0 };
 
     /// Whether the client may be read: not where its request has ended, and it waits for the answer
     /// to an upgrade or has its whole response.
@@ -65,7 +63,7 @@ pub trait Down<C> {
         requires { IsTrue (may_read (state self.old)) }
         ensures reads { ReadsPiece (state self.old) (state self.new) result }
         ensures start { start client.new ≡ start client.old }
-        ensures kept { kept self.new ≡ kept self.old }
+        ensures lasts { lasts self.old self.new }
         ensures goes { (s : Origin) (p : DownPast) → past self.old client.old s p
             → DownGoes (past self.new client.new s) (blames self.new client.new s)
             (p.put ++ put_in (state self.old).upgraded result) p.batched p.closing
@@ -89,7 +87,7 @@ pub trait Down<C> {
     /// `Failed` comes alone and is answered with its error.
     fn take_batch(&mut self, tasks: TaskList, kind: UpKind) -> Result<bool>
         ensures takes { TakesBatch (state self.old) tasks (state self.new) result }
-        ensures kept { kept self.new ≡ kept self.old }
+        ensures lasts { lasts self.old self.new }
         ensures goes { (client : C) (s : Origin) (p : DownPast)
             → past self.old client s p
             → BatchGoes (past self.new client s) (blames self.new client s)
@@ -104,7 +102,7 @@ pub trait Down<C> {
         requires { IsTrue (state self.old).pending }
         ensures writes { Writes (state self.old) (state self.new) result }
         ensures start { start client.new ≡ start client.old }
-        ensures kept { kept self.new ≡ kept self.old }
+        ensures lasts { lasts self.old self.new }
         ensures goes { (s : Origin) (p : DownPast) → past self.old client.old s p
             → DownGoes (past self.new client.new s) (blames self.new client.new s)
             p.put p.batched p.closing (error_of_put Downstream result) }
@@ -120,7 +118,7 @@ pub trait Down<C> {
     /// Ends the response's body. Where it was ended already this queues nothing.
     fn finish(&mut self) -> Result<()>
         ensures ends { Finishes (state self.old) (state self.new) result }
-        ensures kept { kept self.new ≡ kept self.old }
+        ensures lasts { lasts self.old self.new }
         ensures goes { (client : C) (s : Origin) (p : DownPast)
             → past self.old client s p
             → DownGoes (past self.new client s) (cannot_end self.new client s)

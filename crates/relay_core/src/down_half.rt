@@ -2,7 +2,7 @@
 ghost use Rattle.std.specs.Prelude.{◌≡◌, ◌<◌, ◌⊎◌, length, IsTrue, true, false};
 ghost use Rattle.relay_links.specs.Count.{up};
 ghost use Rattle.relay_core.specs.Causes.{says_failed};
-ghost use Rattle.relay_core.specs.Down.{may_read};
+ghost use Rattle.relay_core.specs.Down.{Lasting, may_read};
 ghost use Rattle.relay_core.specs.Pipe.{has_room};
 ghost use Rattle.relay_core.specs.Past.{Origin, DownPast};
 ghost use Rattle.relay_core.specs.Steps.{DownWrites, DownWritesOn, DownTakes, DownTakesOn, GivesBatch, GivesBatchOn, DownDrops, DownReads, DownReadsOn, DownEnds, DownEndsOn, Becomes};
@@ -24,7 +24,7 @@ impl Duplex {
     pub(crate) fn down_write<C, D: Down<C>>(&mut self, client: &mut C, down: &mut D) -> Step
         requires { IsTrue (D.state down.old).pending }
         ensures start { D.start client.new ≡ D.start client.old }
-        ensures keeps { D.kept down.new ≡ D.kept down.old }
+        ensures lasts { Lasting D.lasts down.old down.new }
         ensures exact { DownWrites self.old (D.state down.old) self.new (D.state down.new) result }
         ensures goes { (s : Origin) (p : DownPast) → D.past down.old client.old s p
             → DownWritesOn (D.past down.new client.new s) (D.blames down.new client.new s) p
@@ -60,7 +60,7 @@ impl Duplex {
     pub(crate) fn down_take<C, D: Down<C>>(&mut self, down: &mut D) -> Step
         requires { 0 < length self.old.responses.tasks }
         ensures exact { DownTakes self.old (D.state down.old) self.new (D.state down.new) result }
-        ensures keeps { D.kept down.new ≡ D.kept down.old }
+        ensures lasts { Lasting D.lasts down.old down.new }
         ensures goes { (client : C) (s : Origin) (p : DownPast) → D.past down.old client s p
             → DownTakesOn (D.past down.new client s) (D.blames down.new client s)
             (D.refuses down.new client s) p self.old (D.state down.old) self.new
@@ -75,7 +75,7 @@ impl Duplex {
     fn give_batch<C, D: Down<C>>(&mut self, down: &mut D, tasks: TaskList) -> Step
         ensures exact { GivesBatch self.old (D.state down.old) tasks self.new (D.state down.new)
             result }
-        ensures keeps { D.kept down.new ≡ D.kept down.old }
+        ensures lasts { Lasting D.lasts down.old down.new }
         ensures goes { (client : C) (s : Origin) (p : DownPast) → D.past down.old client s p
             → GivesBatchOn (D.past down.new client s) (D.blames down.new client s)
             (D.refuses down.new client s) p self.old (D.state down.old) tasks self.new
@@ -136,7 +136,7 @@ impl Duplex {
         requires room { IsTrue (has_room self.old.requests) }
         requires readable { IsTrue (may_read (D.state down.old)) }
         ensures start { D.start client.new ≡ D.start client.old }
-        ensures keeps { D.kept down.new ≡ D.kept down.old }
+        ensures lasts { Lasting D.lasts down.old down.new }
         ensures exact { DownReads self.old (D.state down.old) self.new (D.state down.new) result }
         ensures goes { (s : Origin) (p : DownPast) → D.past down.old client.old s p
             → DownReadsOn (D.past down.new client.new s) (D.blames down.new client.new s) p
@@ -183,7 +183,7 @@ impl Duplex {
     /// Ends the response's body; with nothing pending then, the client's half has finished.
     pub(crate) fn down_finish<C, D: Down<C>>(&mut self, down: &mut D) -> Step
         ensures exact { DownEnds self.old (D.state down.old) self.new (D.state down.new) result }
-        ensures keeps { D.kept down.new ≡ D.kept down.old }
+        ensures lasts { Lasting D.lasts down.old down.new }
         ensures goes { (client : C) (s : Origin) (p : DownPast) → D.past down.old client s p
             → DownEndsOn (D.past down.new client s) (D.cannot_end down.new client s) p self.old
             (D.state down.old) self.new (D.state down.new) result }

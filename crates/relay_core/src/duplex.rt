@@ -6,7 +6,7 @@
 ghost use Rattle.std.specs.Prelude.{◌≡◌, ◌&&◌, ◌||◌, [], true, false, not, is_none, None, length, IsTrue, IsNone, IfSome};
 ghost use Rattle.relay_links.specs.Branch.{has, is_same_branch};
 ghost use Rattle.relay_links.specs.declared.branch.Branch.{Branch};
-ghost use Rattle.relay_core.specs.Down.{DownState};
+ghost use Rattle.relay_core.specs.Down.{DownState, Lasting};
 ghost use Rattle.relay_core.specs.State.{is_reading, is_response_done};
 ghost use Rattle.relay_core.specs.Up.{UpState};
 ghost use Rattle.relay_core.specs.Piece.{task_put_of};
@@ -302,7 +302,7 @@ impl Duplex {
             → (D.link client.new).faults ≡ (D.link client.old).faults }
         ensures client_start { D.start client.new ≡ D.start client.old }
         ensures peer_start { U.start up.new ≡ U.start up.old }
-        ensures keeps { D.kept down.new ≡ D.kept down.old }
+        ensures lasts { Lasting D.lasts down.old down.new }
     {
         match branch {
             Branch::UpWrite => self.up_write(up),
@@ -406,8 +406,8 @@ impl Duplex {
         // No call of a link changes what it was as it was handed out.
         ensures client_start { D.start client.new ≡ D.start client.old }
         ensures peer_start { U.start up.new ≡ U.start up.old }
-        // Nor does a call of the client's side change what it keeps.
-        ensures keeps { D.kept down.new ≡ D.kept down.old }
+        // Of the client's side there was a call at most, which leaves it as it says.
+        ensures lasts { Lasting D.lasts down.old down.new }
 
         // The client's request and the upstream's response become done for their causes alone.
         ensures request_done { IsTrue (is_reading self.old.client_request)

@@ -4,7 +4,7 @@ ghost use Rattle.std.specs.Prelude.{◌≡◌, ◌⊎◌, ◌≤◌, true, false
 ghost use Rattle.relay_tasks.specs.declared.error.Error.{Error};
 ghost use Rattle.relay_core.specs.Asked.{WaitRose};
 ghost use Rattle.relay_core.specs.Causes.{says_failed, says_finished};
-ghost use Rattle.relay_core.specs.Down.{DownState};
+ghost use Rattle.relay_core.specs.Down.{DownState, Lasting};
 ghost use Rattle.relay_core.specs.Past.{Origin, DownPast, UpPast};
 ghost use Rattle.relay_core.specs.Sound.{IsSound};
 ghost use Rattle.relay_core.specs.Table.{begins, core, enabled, with_replay};
@@ -136,8 +136,8 @@ impl<D, U: Up> Exchange<D, U> {
             → (D.link client.new).faults ≡ (D.link client.old).faults }
         ensures client_start { D.start client.new ≡ D.start client.old }
         ensures peer_start { U.start self.new.up ≡ U.start self.old.up }
-        // No call of the client's side changes what it keeps.
-        ensures keeps { D.kept self.new.down ≡ D.kept self.old.down }
+        // The calls of the client's side leave it as each of them says.
+        ensures lasts { Lasting D.lasts self.old.down self.new.down }
     {
         if self.sends_head::<C>() {
             let step = send_head(
@@ -298,7 +298,7 @@ fn send_head<C, D: Down<C>, U: Up>(
         → (D.link client.new).faults ≡ (D.link client.old).faults }
     ensures client_start { D.start client.new ≡ D.start client.old }
     ensures peer_start { U.start up.new ≡ U.start up.old }
-    ensures keeps { D.kept down.new ≡ D.kept down.old }
+    ensures lasts { Lasting D.lasts down.old down.new }
 {
     let step = write_head(client, down, up, duplex);
     *stage = stage_behind(up);
@@ -345,7 +345,7 @@ fn write_head<C, D: Down<C>, U: Up>(
         → (D.link client.new).faults ≡ (D.link client.old).faults }
     ensures client_start { D.start client.new ≡ D.start client.old }
     ensures peer_start { U.start up.new ≡ U.start up.old }
-    ensures keeps { D.kept down.new ≡ D.kept down.old }
+    ensures lasts { Lasting D.lasts down.old down.new }
 {
     let step = duplex.step(client, down, up, Branch::UpWrite);
     match duplex.send_error() {

@@ -3,6 +3,7 @@
 ghost use Rattle.std.specs.Prelude.{◌≡◌, ◌⊎◌, ◌≤◌, false, IsTrue};
 ghost use Rattle.relay_core.specs.Asked.{IsQuiet, WaitRose};
 ghost use Rattle.relay_core.specs.Causes.{Tells, says_failed};
+ghost use Rattle.relay_core.specs.Down.{Lasting};
 ghost use Rattle.relay_core.specs.Moves.{SoFar, Goes};
 ghost use Rattle.relay_core.specs.Past.{Origin, DownPast, UpPast};
 ghost use Rattle.relay_core.specs.Sound.{IsSound};
@@ -45,8 +46,8 @@ pub(crate) fn go_round<C, D: Down<C>, U: Up, H: Schedule>(
     ensures client_start { D.start client.new ≡ D.start client.old }
     ensures peer_start { U.start up.new ≡ U.start up.old }
 
-    // Nor does a call of the client's side change what it keeps.
-    ensures keeps { D.kept down.new ≡ D.kept down.old }
+    // The calls of the client's side leave it as each of them says.
+    ensures lasts { Lasting D.lasts down.old down.new }
 
     // It waits only where a link answered so in this turn.
     ensures waits { result.0 ≡ Step.Waited Pause.NotReady

@@ -111,6 +111,7 @@ origin_of s head sent reused = record {
   reused = reused;
   read_faults = s.read_faults;
   write_faults = s.write_faults;
+  called = [];
 }
 
 -- nothing passed yet

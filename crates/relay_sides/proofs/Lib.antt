@@ -6,6 +6,7 @@ pub mod ClientTold
 pub mod ClientWrite
 pub mod ClientBatch
 pub mod ClientEnds
+pub mod LastLemmas
 pub mod LentLemmas
 pub mod UseLemmas
 pub mod FilterLemmas

@@ -24,7 +24,7 @@ use Rattle.relay_session.specs.Asked.{request_of}
 use Rattle.relay_session.specs.Front.{link_fault, client_closed, client_sent_more, body_broken, ends_with_head}
 use Rattle.relay_session.specs.Reading.{head_of, is_body_done, is_kept, replay_of, RequestSoFar, SaysBody, IsWhole}
 use Rattle.relay_session.specs.Replay.{retry_buffer}
-use Rattle.relay_session.specs.Response.{Holds, AreQueued, FailsBatch, IsOpen, is_over, pending}
+use Rattle.relay_session.specs.Response.{Holds, AreQueued, FailsBatch, IsOpen, has_head, is_over, pending}
 use Rattle.relay_session.specs.TaskWire.{ends_short, first_refusal, refusal, wire}
 use Rattle.relay_session.specs.declared.session.HttpSession.{HttpSession}
 use Rattle.relay_session.specs.declared.task_text.Place.{Place}
@@ -140,6 +140,12 @@ pub record HasPassed
   pub closed : finished ≡ true → IsClosed session.writing.place
   pub unbroken : kept ≡ None → IsOpen session.writing.output
   pub fault : (f : Fault) → kept ≡ Some f → FailsWrite s link f
+
+-- what each call leaves of the session: the head of its request; and a final head that was queued
+-- stays so
+pub record IsLasting (old new : HttpSession) : Type 0 where
+  pub head : head_of new.reading ≡ head_of old.reading
+  pub answered : has_head old.writing.place ≡ true → has_head new.writing.place ≡ true
 
 -- none of the tasks is refused by the client's writer
 abbrev pub AllPass : Origin → List HttpTask → Type 0

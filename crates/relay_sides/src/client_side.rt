@@ -1,13 +1,11 @@
 //! The client's side of a duplex over its session: pieces of the request are read from the client,
 //! and the tasks of the response are queued for it (RFC 9112, sections 6, 7 and 9).
-ghost use Rattle.std.specs.Prelude.{◌≡◌, ◌&&◌, ◌||◌, ◌⊎◌, not, List, ℕ, Option};
+ghost use Rattle.std.specs.Prelude.{◌≡◌, ◌&&◌, ◌||◌, ◌⊎◌, not, List, ℕ};
 ghost use Rattle.relay_links.specs.Link.{LinkState};
 ghost use Rattle.relay_core.specs.Past.{Origin};
-ghost use Rattle.relay_tasks.specs.Head.{RequestHead};
-ghost use Rattle.relay_session.specs.Reading.{head_of};
 ghost use Rattle.relay_session.specs.Response.{is_over};
 ghost use Rattle.relay_session.specs.TaskWire.{ends_short};
-ghost use Rattle.relay_sides.specs.Client.{IsSide, BeginsBehind, begun_past, put_again, ClientBlames, ClientRefuses, CannotEnd, Queues, state_of, fault_in, piece_answer, told_read, failure_in_front};
+ghost use Rattle.relay_sides.specs.Client.{IsSide, IsLasting, BeginsBehind, begun_past, put_again, ClientBlames, ClientRefuses, CannotEnd, Queues, state_of, fault_in, piece_answer, told_read, failure_in_front};
 
 use bytes::Bytes;
 use relay_core::{Down, Piece, Told, UpKind};
@@ -203,9 +201,7 @@ impl<F: Front> Down<F> for ClientSide {
 
     ghost start = { F.start };
 
-    ghost Kept = { Option RequestHead };
-
-    ghost kept = { λ side. head_of side.session.reading };
+    ghost lasts = { λ old new. IsLasting old.session new.session };
 
     fn may_read(&self) -> bool {
         !(self.session.is_body_done() && either(self.done, self.finished))

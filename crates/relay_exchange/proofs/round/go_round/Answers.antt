@@ -7,6 +7,7 @@ use Rattle.relay_links.specs.declared.branch.Branch.TheVariants as branch
 use Rattle.relay_links.specs.declared.branch.TheConstants.{BRANCHES}
 use Rattle.relay_core.specs.Asked.{is_silent_for}
 use Rattle.relay_core.specs.Causes.{Tells}
+use Rattle.relay_core.specs.Down.{stays}
 use Rattle.relay_core.specs.Moves.{Goes}
 use Rattle.relay_core.specs.Past.{Origin, DownPast, UpPast}
 use Rattle.relay_core.specs.Table.{State, core, enabled}
@@ -14,6 +15,7 @@ use Rattle.relay_core.specs.declared.step.Step.{Step}
 use Rattle.relay_core.specs.declared.step.Step.TheVariants as step
 use Rattle.relay_core.proofs.BoolLemmas.{clash}
 use Rattle.relay_core.proofs.KeepLemmas.{goes_then}
+use Rattle.relay_core.proofs.LastLemmas as last
 use Rattle.relay_exchange.specs.Exchange.{IsSilentLink, TellsOn}
 use Rattle.relay_exchange.proofs.PassLemmas.{asks_from, moved_from}
 use Rattle.relay_exchange.proofs.CallLemmas.{calls_on}
@@ -56,7 +58,7 @@ loop-turn-init g c =
           (told_on first at
           (core t.new.self (g.D.Down.state t.new.down) (g.U.Up.state t.new.up)) t.result
           t.ensures.exact),
-      t.ensures.keeps,
+      t.ensures.lasts,
     )
 
 -- a branch that cannot be taken is passed
@@ -144,7 +146,7 @@ loop-turn-preserved g c =
           (g.U.Up.state c.loop-turn.up))
           (core t.new.self (g.D.Down.state t.new.down) (g.U.Up.state t.new.up)) t.result
           t.ensures.exact) ∙ i.12,
-      t.ensures.keeps ∙ i.13,
+      last.behind g.D.Down.lasts c.args.down.now c.loop-turn.down t.new.down i.13 t.ensures.lasts,
     )
 
 -- all branches were passed: each that can be taken asks a silent link
@@ -250,3 +252,14 @@ returns-then-not-is_silent-2-clause-moves g c = λ s p q f is.
 pub returns-clause-asks : goal.returns-clause-asks
 returns-clause-asks g c =
     record { client_same = c.loop-turn.invariant.2; upstream_same = c.loop-turn.invariant.3 }
+
+-- no branch can be taken: no call was made
+pub returns-in_default-clause-lasts : goal.returns-in_default-clause-lasts
+returns-in_default-clause-lasts g c = stays
+
+-- the next branch's call behind those before
+pub returns-then-not-is_silent-2-clause-lasts : goal.returns-then-not-is_silent-2-clause-lasts
+returns-then-not-is_silent-2-clause-lasts g c =
+    let t = c.step-step-in-loop-turn in
+    last.behind g.D.Down.lasts c.args.down.now c.loop-turn.down t.new.down
+    c.loop-turn.invariant.13 t.ensures.lasts

@@ -5,6 +5,7 @@ use Rattle.relay_tasks.specs.declared.took.Pause.TheVariants as pause
 use Rattle.relay_links.specs.declared.branch.Branch.{Branch}
 use Rattle.relay_core.specs.Asked.{is_silent_for}
 use Rattle.relay_core.specs.Causes.{Tells}
+use Rattle.relay_core.specs.Down.{Lasting}
 use Rattle.relay_core.specs.Moves.{SoFar, Goes}
 use Rattle.relay_core.specs.Past.{Origin, DownPast, UpPast}
 use Rattle.relay_core.specs.Table.{State, core, enabled}
@@ -37,4 +38,4 @@ invariant-loop-turn g l =
     × ((g.D.Down.state l.down).body_finished ≡ (g.D.Down.state l.fn.down).body_finished)
     × ((g.D.Down.state l.down).calls ≡ (g.D.Down.state l.fn.down).calls)
     × ((g.D.Down.state l.down).told.errors ≡ (g.D.Down.state l.fn.down).told.errors)
-    × (g.D.Down.kept l.down ≡ g.D.Down.kept l.fn.down)
+    × Lasting g.D.Down.lasts l.fn.down l.down

@@ -134,9 +134,7 @@ impl Down<()> for Client {
 
     ghost start = { λ _. mute_start (record { ended = false; used = 0; reused = false }) };
 
-    ghost Kept = { Unit {0} };
-
-    ghost kept = { λ _. tt };
+    ghost lasts = { λ _ _. Unit {0} };
 
     fn may_read(&self) -> bool {
         !(self.ended && self.finished)

@@ -1,5 +1,6 @@
 -- A turn between both sides is one over all that passed, and that is an attempt.
 use Rattle.relay_attempt.proofs.BoundLemmas.{counted_turn}
+use Rattle.relay_attempt.proofs.LastLemmas.{head_lasts}
 use Rattle.relay_attempt.proofs.OrderLemmas.{attempt_so_far}
 use Rattle.relay_attempt.proofs.TurnLemmas.{turned}
 use Rattle.relay_attempt.proofs.h1_exchange.H1Exchange.turn.Goals as goal
@@ -37,3 +38,8 @@ returns-clause-counts g c = λ s tasks ends h.
     (record { exchange = c.turn.new.self }) h c.turn.result.step
     (c.turn.ensures.goes s h.under_way.down h.under_way.up h.under_way.holds)
     c.turn.ensures.errors
+
+-- the head of the request stands
+pub returns-clause-head : goal.returns-clause-head
+returns-clause-head g c =
+    head_lasts c.args.self.now.exchange.down c.turn.new.self.down c.turn.ensures.lasts

@@ -1,5 +1,6 @@
 -- The exchange so far goes on by each branch.
 use Rattle.std.proofs.Common.{refl}
+use Rattle.relay_core.specs.Down.{stays}
 use Rattle.relay_core.specs.Table.{core}
 use Rattle.relay_core.proofs.BatchGoes.{goes_down_take}
 use Rattle.relay_core.proofs.DownGoes.{goes_down_write, goes_down_drop, goes_down_end, goes_down_closed, goes_down_read, goes_down_finish}
@@ -129,3 +130,33 @@ returns-in-UpRead-clause-gains g c =
     brings_gains (g.U.Up.link c.args.up.now) (g.U.Up.link c.up_read.new.up) c.args.self.now
     c.up_read.new.self (c.up_read.ensures.brings s q f.up
     (f.unended (unread old (taken old _ _ c.in-UpRead.is c.requires))) is))
+
+-- ---- the client's side
+
+-- a write to the upstream leaves it
+pub returns-in-UpWrite-clause-lasts : goal.returns-in-UpWrite-clause-lasts
+returns-in-UpWrite-clause-lasts g c = stays
+
+-- so does a piece that is taken
+pub returns-in-UpTake-clause-lasts : goal.returns-in-UpTake-clause-lasts
+returns-in-UpTake-clause-lasts g c = stays
+
+-- a task that is dropped
+pub returns-in-DownDrop-clause-lasts : goal.returns-in-DownDrop-clause-lasts
+returns-in-DownDrop-clause-lasts g c = stays
+
+-- the end of the response
+pub returns-in-DownEnd-clause-lasts : goal.returns-in-DownEnd-clause-lasts
+returns-in-DownEnd-clause-lasts g c = stays
+
+-- the end of the request
+pub returns-in-DownClosed-clause-lasts : goal.returns-in-DownClosed-clause-lasts
+returns-in-DownClosed-clause-lasts g c = stays
+
+-- a read of the upstream
+pub returns-in-UpRead-clause-lasts : goal.returns-in-UpRead-clause-lasts
+returns-in-UpRead-clause-lasts g c = stays
+
+-- and its end
+pub returns-in-UpFinish-clause-lasts : goal.returns-in-UpFinish-clause-lasts
+returns-in-UpFinish-clause-lasts g c = stays

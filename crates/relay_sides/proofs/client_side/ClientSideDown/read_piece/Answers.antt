@@ -6,6 +6,7 @@ use Rattle.relay_session.specs.declared.session.HttpSession.{HttpSession}
 use Rattle.relay_sides.proofs.ClientPast.{no_head}
 use Rattle.relay_sides.proofs.ClientRead.{Left, twice, reads_state, reads_silent, reads_waits, reads_more, reads_on}
 use Rattle.relay_sides.specs.Client as client
+use Rattle.relay_sides.proofs.LastLemmas.{read_lasts}
 use Rattle.relay_sides.proofs.ClientTold.{told_reads, with_told}
 use Rattle.relay_sides.proofs.UseLemmas.{client_reads, client_puts}
 use Rattle.relay_sides.proofs.client_side.ClientSideDown.read_piece.Given.{Over}
@@ -102,3 +103,10 @@ returns-clause-puts g c =
     (g.F.Front.ahead c.read_body_or_idle-took.new.client) c.args.self.now.session
     c.read_body_or_idle-took.new.self c.read_body_or_idle-took.result c.is_body_done.result
     piece h.passed.client (left g c) is)))
+
+-- the head stands, and nothing was queued
+pub returns-clause-lasts : goal.returns-clause-lasts
+returns-clause-lasts g c =
+    read_lasts c.args.self.now.session c.read_body_or_idle-took.new.self
+    c.read_body_or_idle-took.ensures.head
+    (ap (λ (x : HttpSession). x.writing) c.read_body_or_idle-took.ensures.response)

@@ -2,6 +2,7 @@
 use Rattle.std.proofs.Common.{ap, None}
 use Rattle.relay_sides.proofs.ClientBatch.{queues_state, queues_told, refuses_state, queues_on, refuses_on}
 use Rattle.relay_sides.proofs.ClientTold.{with_told}
+use Rattle.relay_sides.proofs.LastLemmas.{all_last, front_lasts}
 use Rattle.relay_sides.proofs.client_side.ClientSideDown.take_batch.Goals as goal
 
 -- the batch was queued
@@ -70,3 +71,15 @@ returns-in-Err-clause-goes g c =
     refuses_on s p _ _ c.args.self.now.session c.queue.new.self.session c.args.tasks
     c.args.self.now.told c.args.self.now.done c.args.self.now.finished c.args.self.now.broken
     c.in-Err.why h c.in-Err.ensures.queues)
+
+-- the head stands behind a batch that was queued, and so does a final head before it
+pub returns-in-Ok-clause-lasts : goal.returns-in-Ok-clause-lasts
+returns-in-Ok-clause-lasts g c =
+    all_last c.args.self.now.session c.queue.new.self.session c.args.tasks
+    c.args.self.now.finished c.in-Ok.over c.in-Ok.ensures.queues
+
+-- and behind one that was refused
+pub returns-in-Err-clause-lasts : goal.returns-in-Err-clause-lasts
+returns-in-Err-clause-lasts g c =
+    front_lasts c.args.self.now.session c.queue.new.self.session c.args.tasks
+    c.args.self.now.finished c.in-Err.why c.in-Err.ensures.queues

@@ -1,10 +1,12 @@
 -- A fault that is kept is answered again; else something waits, and the link is written once.
 use Rattle.std.proofs.Common.{refl, ap}
 use Rattle.relay_session.specs.declared.session.HttpSession.{HttpSession}
+use Rattle.relay_session.specs.declared.writing.Writing.{Writing}
 use Rattle.relay_sides.specs.Client as client
 use Rattle.relay_sides.proofs.ClientWrite.{may_write, waits_open, fails_again, writes_on, writes_state, writes_silent, writes_waits, writes_some}
 use Rattle.relay_links.specs.declared.link.Put.TheVariants as put
 use Rattle.relay_sides.proofs.ClientTold.{told_writes, with_told}
+use Rattle.relay_sides.proofs.LastLemmas.{wrote_lasts}
 use Rattle.relay_sides.proofs.UseLemmas.{client_writes}
 use Rattle.relay_sides.proofs.client_side.ClientSideDown.write_pending.Goals as goal
 
@@ -85,3 +87,10 @@ returns-in-None-clause-asks g c =
     c.write_pending-put.new.self.writing.output c.write_pending-put.result
     (waits_open _ c.args.self.now.broken c.in-None.is c.requires)
     c.write_pending-put.ensures.answer
+
+-- a write leaves where the response stands
+pub returns-in-None-clause-lasts : goal.returns-in-None-clause-lasts
+returns-in-None-clause-lasts g c =
+    wrote_lasts c.args.self.now.session c.write_pending-put.new.self
+    (ap (λ (x : HttpSession). x.reading) c.write_pending-put.ensures.reading)
+    (ap (λ (w : Writing). w.place) c.write_pending-put.ensures.rest)
