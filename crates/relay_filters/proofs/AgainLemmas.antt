@@ -9,13 +9,12 @@ use Rattle.relay_tasks.specs.declared.log.LogEntry.{LogEntry}
 use Rattle.relay_tasks.specs.declared.task.HttpTask.{HttpTask}
 use Rattle.relay_links.specs.Link.{LinkState}
 use Rattle.relay_session.specs.Reading.{head_of}
+use Rattle.relay_session.specs.declared.session.HttpSession.{HttpSession}
 use Rattle.relay_core.specs.Past.{DownGoes, DownPast, Origin, error_of_fail}
 use Rattle.relay_core.specs.Piece.{put_of}
 use Rattle.relay_core.specs.declared.piece.Piece.{Piece}
-use Rattle.relay_modules.specs.Module.{ModuleCall}
 use Rattle.relay_modules.specs.declared.seen.Seen.{Seen}
 use Rattle.relay_hooks.specs.Standing.{Standing}
-use Rattle.relay_calls.specs.Log.{IsAllowed}
 use Rattle.relay_sides.specs.Filtered.{is_head_request}
 use Rattle.relay_sides.specs.declared.client_side.ClientSide.{ClientSide}
 use Rattle.relay_filters.specs.Hooked.{InnerPast, IsHooked, PastBy, seen_by}
@@ -39,20 +38,17 @@ past_is a b came written put batched closing =
     ∙ ap (λ (x : List HttpTask). record b { closing = x }) closing
 
 -- what passed stands over what the inner side says less of
-weaker : (inner inner' : DownPast → Type 0) (allows : Standing → LogEntry → Type 0)
-    (method : List ℕ) (seen : Seen) (mark first : ℕ) (oh a ended u rf stood : Bool)
-    (st : Option Fail) (p : DownPast) → ((q : DownPast) → inner q → inner' q)
-    → IsHooked inner allows method seen mark first oh a ended u rf stood st p
-    → IsHooked inner' allows method seen mark first oh a ended u rf stood st p
-weaker inner inner' allows method seen mark first oh a ended u rf stood st p so h = record {
+weaker : (inner inner' : DownPast → Type 0) (method : List ℕ) (c : HttpSession)
+    (called log : List LogEntry) (oh a ended u rf stood : Bool) (st : Option Fail) (p : DownPast)
+    → ((q : DownPast) → inner q → inner' q)
+    → IsHooked inner method c called log oh a ended u rf stood st p
+    → IsHooked inner' method c called log oh a ended u rf stood st p
+weaker inner inner' method c called log oh a ended u rf stood st p so h = record {
   came = h.came;
   queued = h.queued;
   holds = so _ h.holds;
-  before = h.before;
   own = h.own;
   parts = h.parts;
-  began = h.began;
-  logged = h.logged;
   request = h.request;
   is_of_head = h.is_of_head;
   response = h.response;
@@ -63,21 +59,20 @@ weaker inner inner' allows method seen mark first oh a ended u rf stood st p so 
 -- ---- the piece
 
 module _ (s : Origin) (link : LinkState) (ahead : List ℕ) (side lent : ClientSide)
-    (app : Standing → LogEntry → Type 0) (modules : ModuleCall → Type 0) (method : List ℕ)
-    (seen : Seen) (mark first : ℕ) (oh : Bool) (p : DownPast) (piece : Piece) (seen' : Seen)
-    (mark' : ℕ) (len : first ≡ length seen.log) (head : IsSome (head_of side.session.reading))
+    (app : Standing → LogEntry → Type 0) (method : List ℕ) (called : List LogEntry) (seen : Seen)
+    (mark : ℕ) (oh : Bool) (p : DownPast) (piece : Piece) (seen' : Seen) (mark' : ℕ)
+    (stood : called ≡ seen.log) (head : IsSome (head_of side.session.reading))
     (is_put : p.put ≡ put_of false piece) (none : p.batched ≡ [])
     (ends : is_last piece ≡ true → list_any is_end (put_of false piece) ≡ true)
     (own : oh ≡ is_head_request method) (rest : Swapped side lent)
     (holds : PastBy s link ahead side side.session p)
   where
     -- before the call nothing passed, and of the inner side nothing is said
-    abbrev untold : IsHooked (λ q. Unit {0}) (IsAllowed app modules) method
-        (seen_by seen side.session) mark first oh false false false false true None
-        (record p { put = [] })
+    abbrev untold : IsHooked (λ q. Unit {0}) method side.session called seen.log oh false false
+        false false true None (record p { put = [] })
     untold =
-        begins (λ q. Unit {0}) (IsAllowed app modules) method (seen_by seen side.session) mark first
-        oh false false (record p { put = [] }) len head refl none own tt
+        begins (λ q. Unit {0}) method side.session called seen.log oh false false
+        (record p { put = [] }) stood head refl none own tt
 
     -- the same bytes passed
     abbrev Same : DownPast → Type 0
@@ -99,34 +94,31 @@ module _ (s : Origin) (link : LinkState) (ahead : List ℕ) (side lent : ClientS
     -- what passed by the call, of these bytes
     settled : (st : Option Fail) (ended : Bool) (put : List HttpTask)
         (blames : DownPast → Error → Type 0) (error : Option Error)
-        → DownGoes (IsHooked (λ q. InnerPast st s link ahead lent q × Same q)
-        (IsAllowed app modules) method (seen_by seen' lent.session) mark' first oh false ended false
-        false true st) blames put p.batched p.closing error
-        → IsHooked (InnerPast st s link ahead lent) (IsAllowed app modules) method
-        (seen_by seen' lent.session) mark' first oh false ended false false true st
-        (record p { put = put })
+        → DownGoes (IsHooked (λ q. InnerPast st s link ahead lent q × Same q) method lent.session
+        called seen'.log oh false ended false false true st) blames put p.batched p.closing error
+        → IsHooked (InnerPast st s link ahead lent) method lent.session called seen'.log oh false
+        ended false false true st (record p { put = put })
     settled st ended put blames error g =
-        subst (λ (q : DownPast). IsHooked (InnerPast st s link ahead lent) (IsAllowed app modules)
-        method (seen_by seen' lent.session) mark' first oh false ended false false true st q)
+        subst (λ (q : DownPast). IsHooked (InnerPast st s link ahead lent) method lent.session
+        called seen'.log oh false ended false false true st q)
         (past_is g.past (record p { put = put }) g.stands.holds.1.0 g.stands.holds.1.1 g.is_put
         g.is_batched g.is_closing)
         (weaker (λ q. InnerPast st s link ahead lent q × Same q) (InnerPast st s link ahead lent)
-        (IsAllowed app modules) method (seen_by seen' lent.session) mark' first oh false ended false
-        false true st g.past (λ q both. both.0) g.stands)
+        method lent.session called seen'.log oh false ended false false true st g.past
+        (λ q both. both.0) g.stands)
 
     -- it passed its filter
     pub again_reads : (made : Piece)
         → Filtered app false piece made (seen_by seen side.session) mark
         (seen_by seen' lent.session) mark'
-        → IsHooked (InnerPast None s link ahead lent) (IsAllowed app modules) method
-        (seen_by seen' lent.session) mark' first oh false made.upstream_end false false true None
-        (record p { put = put_of false made })
+        → IsHooked (InnerPast None s link ahead lent) method lent.session called seen'.log oh false
+        made.upstream_end false false true None (record p { put = put_of false made })
     again_reads made f =
         settled None made.upstream_end (put_of false made) _ None
         (reads_piece (λ q. Unit {0}) (λ q. InnerPast None s link ahead lent q × Same q)
-        (λ q e. Unit {0}) app modules method (seen_by seen side.session) mark first oh false false
-        false false false true None (record p { put = [] }) piece made (seen_by seen' lent.session)
-        mark' refl untold refl ends f
+        (λ q e. Unit {0}) app method (seen_by seen side.session) mark called oh false false false
+        false false true None (record p { put = [] }) piece made (seen_by seen' lent.session) mark'
+        refl untold refl ends f
         (again_puts None (lent_past s link ahead side lent p rest
         (call_client app _ _ (seen_by seen side.session) mark (seen_by seen' lent.session) mark' _
         f.call) holds)))
@@ -145,34 +137,33 @@ module _ (s : Origin) (link : LinkState) (ahead : List ℕ) (side lent : ClientS
     pub again_stops : (why : Fail)
         → Filters app false piece (Err why) (seen_by seen side.session) mark
         (seen_by seen' lent.session) mark'
-        → IsHooked (InnerPast (Some why) s link ahead lent) (IsAllowed app modules) method
-        (seen_by seen' lent.session) mark' first oh false false false false true (Some why)
-        (record p { put = [] })
+        → IsHooked (InnerPast (Some why) s link ahead lent) method lent.session called seen'.log oh
+        false false false false true (Some why) (record p { put = [] })
     again_stops why f =
         settled (Some why) false [] _ (error_of_fail why)
         (stops_at (λ q. Unit {0}) (λ q. InnerPast (Some why) s link ahead lent q × Same q)
-        (λ q e. Unit {0}) app modules method (seen_by seen side.session) mark first oh false false
-        false false false true None (record p { put = [] }) piece why []
-        (seen_by seen' lent.session) mark' refl untold refl refl ends f (again_puts (Some why) (fails_so why f)))
+        (λ q e. Unit {0}) app method (seen_by seen side.session) mark called oh false false false
+        false false true None (record p { put = [] }) piece why [] (seen_by seen' lent.session)
+        mark' refl untold refl refl ends f (again_puts (Some why) (fails_so why f)))
 
     -- the call stands alone among the side's own
-    abbrev first_calls : InSegments oh None (drop first seen.log)
-    first_calls = segments_none oh (drop first seen.log) (own_none first seen.log len)
+    abbrev first_calls : InSegments oh None (drop (length called) seen.log)
+    first_calls = segments_none oh (drop (length called) seen.log) (own_none called seen.log stood)
 
     pub again_calls : (made : Piece)
         → Filtered app false piece made (seen_by seen side.session) mark
-        (seen_by seen' lent.session) mark' → InSegments oh None (drop first seen'.log)
+        (seen_by seen' lent.session) mark'
+        → InSegments oh None (drop (length called) seen'.log)
     again_calls made f =
-        segments_piece (λ q. Unit {0}) (IsAllowed app modules) method (seen_by seen side.session)
-        mark first oh false false false false true None (record p { put = [] }) untold refl
-        first_calls (seen_by seen' lent.session) app (seen_by seen side.session) mark' false piece
-        made refl f
+        segments_piece called [] seen.log untold.parts oh None refl first_calls
+        (seen_by seen' lent.session) app (seen_by seen side.session) mark mark' false piece made
+        refl f
 
     pub again_refused : (why : Fail)
         → Filters app false piece (Err why) (seen_by seen side.session) mark
-        (seen_by seen' lent.session) mark' → InSegments oh (Some why) (drop first seen'.log)
+        (seen_by seen' lent.session) mark'
+        → InSegments oh (Some why) (drop (length called) seen'.log)
     again_refused why f =
-        segments_refused (λ q. Unit {0}) (IsAllowed app modules) method
-        (seen_by seen side.session) mark first oh false false false false true None
-        (record p { put = [] }) untold refl first_calls (seen_by seen' lent.session) app
-        (seen_by seen side.session) mark' false piece why refl f
+        segments_refused called [] seen.log untold.parts oh None refl first_calls
+        (seen_by seen' lent.session) app (seen_by seen side.session) mark mark' false piece why refl
+        f

@@ -1,8 +1,8 @@
 -- A side whose client's session hooks are lent: what passed by its inner side, which reads and
 -- writes that session, and by the filters, which are shown it.
-use Rattle.std.proofs.Common.{◌≡◌, ℕ, Bool, true, false, ◌||◌, ◌&&◌, List, [], ◌++◌, Option, Some, None, Ok, Err, append-nil, refl, sym, ap, subst, true≢false, ◌∙◌, IsSome, unwrap_or}
+use Rattle.std.proofs.Common.{◌≡◌, ℕ, Bool, true, false, ◌||◌, ◌&&◌, List, [], ◌++◌, Option, Some, None, Ok, Err, append-nil, refl, sym, ap, subst, true≢false, ◌∙◌, IsSome}
 use Rattle.std.specs.List.{list_any}
-use Rattle.relay_tasks.specs.Head.{RequestHead, new_request}
+use Rattle.relay_tasks.specs.Head.{RequestHead}
 use Rattle.relay_tasks.specs.Task.{is_end}
 use Rattle.relay_tasks.specs.declared.error.Error.{Error}
 use Rattle.relay_tasks.specs.declared.error.Fail.{Fail}
@@ -11,18 +11,13 @@ use Rattle.relay_tasks.specs.declared.log.LogEntry.{LogEntry}
 use Rattle.relay_tasks.specs.declared.task.HttpTask.{HttpTask}
 use Rattle.relay_links.specs.Link.{LinkState}
 use Rattle.relay_session.specs.Reading.{head_of, is_body_done}
-use Rattle.relay_session.specs.Response.{has_head}
 use Rattle.relay_session.specs.declared.session.HttpSession.{HttpSession}
 use Rattle.relay_core.specs.Past.{BatchRefused, DownGoes, DownPast, Origin, error_of_fail}
 use Rattle.relay_core.specs.Pipe.{is_failure}
 use Rattle.relay_core.specs.Piece.{put_of}
 use Rattle.relay_core.specs.declared.piece.Piece.{Piece}
-use Rattle.relay_modules.specs.Module.{ModuleCall}
 use Rattle.relay_modules.specs.declared.seen.Seen.{Seen}
-use Rattle.relay_hooks.specs.Session.{moment}
-use Rattle.relay_hooks.specs.Standing.{Standing, standing}
-use Rattle.relay_calls.specs.Log.{IsAllowed, Walk}
-use Rattle.relay_calls.proofs.LogLemmas.{Walk-append}
+use Rattle.relay_hooks.specs.Standing.{Standing}
 use Rattle.relay_sides.specs.Lent.{SameButHead}
 use Rattle.relay_sides.specs.declared.client_side.ClientSide.{ClientSide}
 use Rattle.relay_sides.proofs.LentLemmas.{IsSide-lent}
@@ -30,7 +25,6 @@ use Rattle.relay_filters.specs.Chain.{Refuses}
 use Rattle.relay_filters.specs.Request.{Filtered, Filters, is_last}
 use Rattle.relay_filters.specs.Response.{BatchPasses, BatchStops, Outcome}
 use Rattle.relay_filters.specs.Hooked.{BlamesOver, InnerPast, IsHooked, PastBy, PastOf, RefusesOver, inside, is_lost, refused_at_once, seen_by}
-use Rattle.relay_filters.proofs.MoveLemmas.{final_stays}
 use Rattle.relay_filters.proofs.OutcomeLemmas.{call_client}
 use Rattle.relay_filters.proofs.SideLemmas.{batch_goes, batch_refused, batch_stops, goes_on, reads_piece, stops_at}
 
@@ -50,10 +44,6 @@ of_past true past c p known h = absurd (true≢false known)
 -- a side that goes on is not lost
 pub not_lost : (st : Option Fail) → st ≡ None → is_lost st ≡ false
 not_lost st on = ap is_lost on
-
--- memory was not wanted in a side that is not lost
-kept_memory : (st : Option Fail) → is_lost st ≡ false → st ≡ Some fail.OutOfMemory → ⊥
-kept_memory st known is = absurd (true≢false (sym (ap is_lost is) ∙ known))
 
 -- ---- an answer over another session
 
@@ -89,68 +79,23 @@ refused_so holds holds' refuses p tasks why so g = record {
 
 -- ---- the session between two calls
 
--- what a side's own calls leave of the client's session: the head, and a final head that was queued
-pub record MovesOn (c c' : HttpSession) : Type 0 where
-  pub head : head_of c'.reading ≡ head_of c.reading
-  pub final_head : has_head c.writing.place ≡ true → has_head c'.writing.place ≡ true
-
--- the calls of hooks walk on to the session as it stands
-module _ (inner : DownPast → Type 0) (allows : Standing → LogEntry → Type 0) (method : List ℕ)
-    (seen : Seen) (c c' : HttpSession) (mark first : ℕ) (oh a ended u rf stood : Bool)
-    (st : Option Fail) (p : DownPast) (known : is_lost st ≡ false) (moves : MovesOn c c')
-    (h : IsHooked inner allows method (seen_by seen c) mark first oh a ended u rf stood st p) where
-  pub walks_to : Walk allows h.logged.from h.own (standing None false
-      (moment (seen_by seen c') mark))
-  walks_to =
-      let before = standing None false (moment (seen_by seen c) mark) in
-      let behind = standing None false (moment (seen_by seen c') mark) in
-      subst (λ (es : List LogEntry). Walk allows h.logged.from es behind) (append-nil h.own)
-      (Walk-append allows h.own [] h.logged.from before behind
-      (subst (λ (to : Standing). Walk allows h.logged.from h.own to)
-      (h.logged.at (kept_memory st known)) h.logged.walk)
-      (record {
-        mark = refl;
-        head = ap (λ (o : Option RequestHead). unwrap_or o (new_request [] [])) moves.head;
-        keepalive = refl;
-        final_head = moves.final_head;
-        upgraded = λ up. up;
-      }))
-
-  abbrev pub moved : IsHooked inner allows method (seen_by seen c') mark first oh a ended u rf stood
-      st p
-  moved = record {
-    came = h.came;
-    queued = h.queued;
-    holds = h.holds;
-    before = h.before;
-    own = h.own;
-    parts = h.parts;
-    began = h.began;
-    logged = record {
-      from = h.logged.from;
-      to = standing None false (moment (seen_by seen c') mark);
-      walk = walks_to;
-      at = λ kept. refl;
-    };
-    request = h.request;
-    is_of_head = h.is_of_head;
-    response = h.response;
-    head = λ on. subst (λ (o : Option RequestHead). IsSome o) (sym moves.head) (h.head on);
-    told = h.told;
-  }
-
--- a side's own call leaves the session so
-pub moves_by : (s : Origin) (link link' : LinkState) (ahead ahead' : List ℕ)
-    (side side' : ClientSide) (p p' : DownPast) (more behind : List HttpTask)
-    → head_of side'.session.reading ≡ head_of side.session.reading
-    → p'.batched ≡ p.batched ++ more → p'.closing ≡ p.closing ++ behind
-    → PastBy s link ahead side side.session p → PastBy s link' ahead' side' side'.session p'
-    → MovesOn side.session side'.session
-moves_by s link link' ahead ahead' side side' p p' more behind head batched closing h h' = record {
-  head = head;
-  final_head = final_stays s p p' more behind link link' ahead ahead' side.session side'.session
-      side.told side'.told side.done side.finished side'.done side'.finished side.broken
-      side'.broken batched closing h h';
+-- what passed stands over a session with the same head
+abbrev pub moved : (inner : DownPast → Type 0) (method : List ℕ) (c c' : HttpSession)
+    (called log : List LogEntry) (oh a ended u rf stood : Bool) (st : Option Fail) (p : DownPast)
+    → head_of c'.reading ≡ head_of c.reading
+    → IsHooked inner method c called log oh a ended u rf stood st p
+    → IsHooked inner method c' called log oh a ended u rf stood st p
+moved inner method c c' called log oh a ended u rf stood st p same h = record {
+  came = h.came;
+  queued = h.queued;
+  holds = h.holds;
+  own = h.own;
+  parts = h.parts;
+  request = h.request;
+  is_of_head = h.is_of_head;
+  response = h.response;
+  head = λ on. subst (λ (o : Option RequestHead). IsSome o) (sym same) (h.head on);
+  told = h.told;
 }
 
 -- ---- the session behind a call of hooks
@@ -185,32 +130,24 @@ lost_past s link ahead side side' q rest h =
 
 -- no filter was called
 pub client_goes : (s : Origin) (link link' : LinkState) (ahead ahead' : List ℕ)
-    (side side' : ClientSide) (blames' : DownPast → Error → Type 0)
-    (allows : Standing → LogEntry → Type 0) (method : List ℕ) (seen : Seen) (mark first : ℕ)
-    (oh a ended rf stood : Bool) (st : Option Fail) (p : DownPast)
-    (put_in put batched_in batched closing behind : List HttpTask) (error : Option Error)
-    (h : IsHooked (InnerPast st s link ahead side) allows method (seen_by seen side.session) mark
-    first oh a ended false rf stood st p)
+    (side side' : ClientSide) (blames' : DownPast → Error → Type 0) (method : List ℕ)
+    (called log : List LogEntry) (oh a ended rf stood : Bool) (st : Option Fail) (p : DownPast)
+    (put_in put batched_in batched closing : List HttpTask) (error : Option Error)
+    (h : IsHooked (InnerPast st s link ahead side) method side.session called log oh a ended false
+    rf stood st p)
     → is_lost st ≡ false → head_of side'.session.reading ≡ head_of side.session.reading
     → put_in ≡ h.came → put ≡ p.put → batched_in ≡ h.queued → batched ≡ p.batched
-    → closing ≡ p.closing ++ behind
     → DownGoes (PastBy s link' ahead' side' side'.session) blames' put_in batched_in closing error
-    → DownGoes (IsHooked (InnerPast st s link' ahead' side') allows method
-    (seen_by seen side'.session) mark first oh a ended false rf stood st)
-    (λ past e. BlamesOver (InnerPast st s link' ahead' side') blames' st past e) put batched closing
-    error
-client_goes s link link' ahead ahead' side side' blames' allows method seen mark first oh a ended rf
-    stood st p put_in put batched_in batched closing behind error h known head is same is' same'
-    closes g =
-    let moves = moves_by s link link' ahead ahead' side side' (inside p h.came h.queued) g.past []
-    behind head (g.is_batched ∙ is' ∙ sym (append-nil h.queued)) (g.is_closing ∙ closes)
-    (past_of (is_lost st) (PastBy s link ahead side) side.session (inside p h.came h.queued) known
-    h.holds) g.stands in
-    goes_on (InnerPast st s link ahead side) (InnerPast st s link' ahead' side') blames' allows
-    method (seen_by seen side'.session) mark first oh a ended ended false false rf stood st p put_in
-    put batched_in batched closing error
-    (moved (InnerPast st s link ahead side) allows method seen side.session side'.session mark first
-    oh a ended false rf stood st p known moves h)
+    → DownGoes (IsHooked (InnerPast st s link' ahead' side') method side'.session called log oh a
+    ended false rf stood st) (λ past e. BlamesOver (InnerPast st s link' ahead' side') blames' st
+    past e) put batched closing error
+client_goes s link link' ahead ahead' side side' blames' method called log oh a ended rf stood st p
+    put_in put batched_in batched closing error h known head is same is' same' g =
+    goes_on (InnerPast st s link ahead side) (InnerPast st s link' ahead' side') blames' method
+    side'.session called log oh a ended ended false false rf stood st p put_in put batched_in
+    batched closing error
+    (moved (InnerPast st s link ahead side) method side.session side'.session called log oh a ended
+    false rf stood st p head h)
     (λ low. (refl, refl)) is same is' same'
     (goes_so (PastBy s link' ahead' side' side'.session) (InnerPast st s link' ahead' side') blames'
     put_in batched_in closing error
@@ -221,11 +158,11 @@ client_goes s link link' ahead ahead' side side' blames' allows method seen mark
 -- the inner side gave a piece, and hooks were lent the session behind that
 module _ (s : Origin) (link link' : LinkState) (ahead ahead' : List ℕ)
     (side given lent : ClientSide) (blames' : DownPast → Error → Type 0)
-    (app : Standing → LogEntry → Type 0) (modules : ModuleCall → Type 0) (method : List ℕ)
-    (seen : Seen) (mark first : ℕ) (oh a ended rf stood : Bool) (st : Option Fail) (p : DownPast)
+    (app : Standing → LogEntry → Type 0) (method : List ℕ) (seen : Seen) (mark : ℕ)
+    (called : List LogEntry) (oh a ended rf stood : Bool) (st : Option Fail) (p : DownPast)
     (piece : Piece) (seen' : Seen) (mark' : ℕ) (on : st ≡ None)
-    (h : IsHooked (InnerPast st s link ahead side) (IsAllowed app modules) method
-    (seen_by seen side.session) mark first oh a ended false rf stood st p)
+    (h : IsHooked (InnerPast st s link ahead side) method side.session called seen.log oh a ended
+    false rf stood st p)
     (head : head_of given.session.reading ≡ head_of side.session.reading)
     (rest : Swapped given lent)
     (done : is_last piece ≡ true → is_body_done given.session.reading ≡ true)
@@ -237,29 +174,25 @@ module _ (s : Origin) (link link' : LinkState) (ahead ahead' : List ℕ)
       ap (list_any is_end) (sym g.is_put) ∙ g.stands.passed.client.whole (done last)
 
   -- before the hooks were called
-  abbrev at_call : IsHooked (InnerPast st s link ahead side) (IsAllowed app modules) method
-      (seen_by seen given.session) mark first oh a ended false rf stood st p
+  abbrev at_call : IsHooked (InnerPast st s link ahead side) method given.session called seen.log oh
+      a ended false rf stood st p
   at_call =
-      moved (InnerPast st s link ahead side) (IsAllowed app modules) method seen side.session
-      given.session mark first oh a ended false rf stood st p (not_lost st on)
-      (moves_by s link link' ahead ahead' side given (inside p h.came h.queued) g.past [] [] head
-      (g.is_batched ∙ sym (append-nil h.queued)) (g.is_closing ∙ sym (append-nil p.closing))
-      (past_of (is_lost st) (PastBy s link ahead side) side.session (inside p h.came h.queued)
-      (not_lost st on) h.holds) g.stands) h
+      moved (InnerPast st s link ahead side) method side.session given.session called seen.log oh a
+      ended false rf stood st p head h
 
   -- it passed
   pub lent_reads : (made : Piece)
       → Filtered app ended piece made (seen_by seen given.session) mark
       (seen_by seen' lent.session) mark'
-      → DownGoes (IsHooked (InnerPast st s link' ahead' lent) (IsAllowed app modules) method
-      (seen_by seen' lent.session) mark' first oh a (ended || made.upstream_end) false rf stood st)
+      → DownGoes (IsHooked (InnerPast st s link' ahead' lent) method lent.session called seen'.log oh
+      a (ended || made.upstream_end) false rf stood st)
       (λ past e. BlamesOver (InnerPast st s link' ahead' lent) blames' st past e)
       (p.put ++ put_of false made) p.batched p.closing None
   lent_reads made f =
       let same = call_client app _ _ (seen_by seen given.session) mark
       (seen_by seen' lent.session) mark' _ f.call in
       reads_piece (InnerPast st s link ahead side) (InnerPast st s link' ahead' lent) blames' app
-      modules method (seen_by seen given.session) mark first oh a ended false false rf stood st p
+      method (seen_by seen given.session) mark called oh a ended false false rf stood st p
       piece made (seen_by seen' lent.session) mark' on at_call refl end_came f
       (goes_so (PastBy s link' ahead' given given.session) (InnerPast st s link' ahead' lent)
       blames' (h.came ++ put_of false piece) h.queued p.closing None
@@ -282,13 +215,13 @@ module _ (s : Origin) (link link' : LinkState) (ahead ahead' : List ℕ)
   pub lent_stops : (why : Fail)
       → Filters app ended piece (Err why) (seen_by seen given.session) mark
       (seen_by seen' lent.session) mark'
-      → DownGoes (IsHooked (InnerPast (Some why) s link' ahead' lent) (IsAllowed app modules)
-      method (seen_by seen' lent.session) mark' first oh a ended false rf stood (Some why))
+      → DownGoes (IsHooked (InnerPast (Some why) s link' ahead' lent) method lent.session called
+      seen'.log oh a ended false rf stood (Some why))
       (λ past e. BlamesOver (InnerPast (Some why) s link' ahead' lent) blames' (Some why) past e)
       (p.put ++ []) p.batched p.closing (error_of_fail why)
   lent_stops why f =
       stops_at (InnerPast st s link ahead side) (InnerPast (Some why) s link' ahead' lent) blames'
-      app modules method (seen_by seen given.session) mark first oh a ended false false rf stood st
+      app method (seen_by seen given.session) mark called oh a ended false false rf stood st
       p piece why (p.put ++ []) (seen_by seen' lent.session) mark' on at_call refl
       (append-nil p.put) end_came f
       (goes_so (PastBy s link' ahead' given given.session)
@@ -313,12 +246,13 @@ takes_head None false false tasks on = cc
 
 -- hooks were lent the session for a batch
 module _ (s : Origin) (link : LinkState) (ahead : List ℕ) (side lent : ClientSide)
-    (allows : Standing → LogEntry → Type 0) (method : List ℕ) (seen : Seen) (mark first : ℕ)
-    (oh a ended rf stood stand has : Bool) (st : Option Fail) (p : DownPast)
+    (allows : Standing → LogEntry → Type 0) (method : List ℕ) (seen : Seen) (mark : ℕ)
+    (called : List LogEntry) (oh a ended rf stood stand has : Bool) (st : Option Fail)
+    (p : DownPast)
     (tasks : List HttpTask) (seen' : Seen) (mark' : ℕ)
     (on : refused_at_once st rf has tasks ≡ None)
-    (h : IsHooked (InnerPast st s link ahead side) allows method (seen_by seen side.session) mark
-    first oh a ended false rf stood st p) (rest : Swapped side lent) where
+    (h : IsHooked (InnerPast st s link ahead side) method side.session called seen.log oh a ended
+    false rf stood st p) (rest : Swapped side lent) where
   abbrev known : is_lost st ≡ false
   known = not_lost st (takes_on st rf has tasks on)
 
@@ -341,26 +275,22 @@ module _ (s : Origin) (link : LinkState) (ahead : List ℕ) (side lent : ClientS
       (seen_by seen' lent.session) mark')
       → DownGoes (PastBy s link ahead took took.session) blames' h.came (h.queued ++ made) p.closing
       None
-      → DownGoes (IsHooked (InnerPast st s link ahead took) allows method
-      (seen_by seen' took.session) mark' first oh a ended false rf (stood && stand) st)
+      → DownGoes (IsHooked (InnerPast st s link ahead took) method took.session called seen'.log oh
+      a ended false rf (stood && stand) st)
       (λ past e. BlamesOver (InnerPast st s link ahead took) blames' st past e) p.put
       (p.batched ++ tasks) p.closing None
   lent_batch took blames' made head out g =
-      let moves = moves_by s link link ahead ahead lent took (inside p h.came h.queued) g.past made
-      [] head g.is_batched (g.is_closing ∙ sym (append-nil p.closing)) (lent_holds made out)
-      g.stands
-      in
       goes_so
-      (IsHooked (InnerPast st s link ahead took) allows method (seen_by seen' lent.session) mark'
-      first oh a ended false rf (stood && stand) st)
-      (IsHooked (InnerPast st s link ahead took) allows method (seen_by seen' took.session) mark'
-      first oh a ended false rf (stood && stand) st)
+      (IsHooked (InnerPast st s link ahead took) method lent.session called seen'.log oh a ended
+      false rf (stood && stand) st)
+      (IsHooked (InnerPast st s link ahead took) method took.session called seen'.log oh a ended
+      false rf (stood && stand) st)
       (λ past e. BlamesOver (InnerPast st s link ahead took) blames' st past e) p.put
       (p.batched ++ tasks) p.closing None
-      (λ q stands. moved (InnerPast st s link ahead took) allows method seen' lent.session
-      took.session mark' first oh a ended false rf (stood && stand) st q known moves stands)
+      (λ q stands. moved (InnerPast st s link ahead took) method lent.session took.session called
+      seen'.log oh a ended false rf (stood && stand) st q head stands)
       (batch_goes (InnerPast st s link ahead side) (InnerPast st s link ahead took) blames' allows
-      method (seen_by seen side.session) mark first oh a ended ended false false rf stood stand st
+      method (seen_by seen side.session) mark called oh a ended ended false false rf stood stand st
       has p tasks made (seen_by seen' lent.session) mark' on h (λ low. (refl, refl)) out
       (goes_so (PastBy s link ahead took took.session) (InnerPast st s link ahead took) blames'
       h.came (h.queued ++ made) p.closing None
@@ -376,27 +306,24 @@ module _ (s : Origin) (link : LinkState) (ahead : List ℕ) (side lent : ClientS
       (seen_by seen' lent.session) mark')
       → BatchRefused (PastBy s link ahead took took.session) refuses' (inside p h.came h.queued)
       made why
-      → BatchRefused (IsHooked (InnerPast st s link ahead took) allows method
-      (seen_by seen' took.session) mark' first oh a ended false true (stood && stand) st)
+      → BatchRefused (IsHooked (InnerPast st s link ahead took) method took.session called
+      seen'.log oh a ended false true (stood && stand) st)
       (λ past left e.
-      RefusesOver (InnerPast st s link ahead took) refuses' oh (stood && stand) stand true st first
+      RefusesOver (InnerPast st s link ahead took) refuses' oh (stood && stand) stand true st called
       seen'.log past left e) p tasks why
   lent_refused took refuses' made why head failures out g =
-      let moves = moves_by s link link ahead ahead lent took (inside p h.came h.queued) g.past
-      g.filtered [] head g.is_batched (g.is_closing ∙ sym (append-nil p.closing))
-      (lent_holds made out) g.stands in
       refused_so
-      (IsHooked (InnerPast st s link ahead took) allows method (seen_by seen' lent.session) mark'
-      first oh a ended false true (stood && stand) st)
-      (IsHooked (InnerPast st s link ahead took) allows method (seen_by seen' took.session) mark'
-      first oh a ended false true (stood && stand) st)
+      (IsHooked (InnerPast st s link ahead took) method lent.session called seen'.log oh a ended
+      false true (stood && stand) st)
+      (IsHooked (InnerPast st s link ahead took) method took.session called seen'.log oh a ended
+      false true (stood && stand) st)
       (λ past left e.
-      RefusesOver (InnerPast st s link ahead took) refuses' oh (stood && stand) stand true st first
+      RefusesOver (InnerPast st s link ahead took) refuses' oh (stood && stand) stand true st called
       seen'.log past left e) p tasks why
-      (λ q stands. moved (InnerPast st s link ahead took) allows method seen' lent.session
-      took.session mark' first oh a ended false true (stood && stand) st q known moves stands)
+      (λ q stands. moved (InnerPast st s link ahead took) method lent.session took.session called
+      seen'.log oh a ended false true (stood && stand) st q head stands)
       (batch_refused (InnerPast st s link ahead side) (InnerPast st s link ahead took) refuses'
-      allows method (seen_by seen side.session) mark first oh a ended false false rf stood stand st
+      allows method (seen_by seen side.session) mark called oh a ended false false rf stood stand st
       has p tasks made why (seen_by seen' lent.session) mark' on h (λ low. refl) failures out
       (refused_so (PastBy s link ahead took took.session) (InnerPast st s link ahead took) refuses'
       (inside p h.came h.queued) made why
@@ -418,14 +345,14 @@ module _ (s : Origin) (link : LinkState) (ahead : List ℕ) (side lent : ClientS
       → Outcome {Y = List HttpTask} allows (λ es out. BatchPasses oh stand tasks es out)
       (BatchStops oh stand tasks) (Refuses oh) (Err why) (seen_by seen side.session) mark
       (seen_by seen' lent.session) mark'
-      → BatchRefused (IsHooked (InnerPast (Some why) s link ahead lent) allows method
-      (seen_by seen' lent.session) mark' first oh a ended false rf stood (Some why))
+      → BatchRefused (IsHooked (InnerPast (Some why) s link ahead lent) method lent.session called
+      seen'.log oh a ended false rf stood (Some why))
       (λ past left e.
       RefusesOver (InnerPast (Some why) s link ahead lent) refuses oh stood stand rf (Some why)
-      first seen'.log past left e) p tasks why
+      called seen'.log past left e) p tasks why
   lent_fails refuses why out =
       batch_stops (InnerPast st s link ahead side) (InnerPast (Some why) s link ahead lent) refuses
-      allows method (seen_by seen side.session) mark first oh a ended false rf stood stand st has p
+      allows method (seen_by seen side.session) mark called oh a ended false rf stood stand st has p
       tasks why (seen_by seen' lent.session) mark' on
       (λ q stands. batch_fails why out q
       (past_of (is_lost st) (PastBy s link ahead side) side.session q known stands)) h out

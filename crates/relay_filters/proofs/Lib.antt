@@ -6,7 +6,7 @@ mod ResponseLemmas
 mod ModuleLemmas
 mod BatchLemmas
 mod SideLemmas
-mod MoveLemmas
+mod WalkLemmas
 mod LentSide
 mod StateLemmas
 mod SegmentLemmas

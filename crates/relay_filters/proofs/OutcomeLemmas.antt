@@ -287,23 +287,6 @@ module_fails app allows m stand made old mark new chain feeds of_head (fail.Erro
 module_fails app allows m stand made old mark new chain feeds of_head fail.OutOfMemory are says head
     none fed is = ([], adds_lost _ old mark new is, none)
 
--- what passed goes on as another
-pub goes_as : {X Y : Type 0} (allows : Standing → LogEntry → Type 0)
-    (chain : List LogEntry → X → Type 0) (chain' : List LogEntry → Y → Type 0)
-    (feeds feeds' : List LogEntry → Type 0) (of_head : Bool) (x : X) (y : Y) (old : Seen) (m : ℕ)
-    (new : Seen) (m1 : ℕ) → ((es : List LogEntry) → chain es x → chain' es y)
-    → Outcome allows chain feeds (Refuses of_head) (Ok x) old m new m1
-    → Outcome allows chain' feeds' (Refuses of_head) (Ok y) old m new m1
-goes_as allows chain chain' feeds feeds' of_head x y old m new m1 on (es, a, c) = (es, a, on es c)
-
--- no call was made
-pub passes_none : {Y : Type 0} (allows : Standing → LogEntry → Type 0)
-    (chain : List LogEntry → Y → Type 0) (feeds : List LogEntry → Type 0) (of_head : Bool) (y : Y)
-    (seen : Seen) (mark : ℕ) → IsSome (head_of seen.downstream.reading) → chain [] y
-    → Outcome allows chain feeds (Refuses of_head) (Ok y) seen mark seen mark
-passes_none allows chain feeds of_head y seen mark head c =
-    ([], adds_none allows seen mark head, c)
-
 -- a call of the modules passed something
 pub module_passes : {M Y : Type 0} (app : Standing → LogEntry → Type 0)
     (allows : M → ModuleCall → Type 0) (m : Option M) (stand : IsSome m) (call : ModuleCall)

@@ -1,5 +1,5 @@
 -- What a side tells of errors, beside what its inner side told of them.
-use Rattle.std.proofs.Common.{◌≡◌, ℕ, Bool, List, drop, Option, Some, None, arith, refl, sym, ap, subst, ◌∙◌, inl, inr}
+use Rattle.std.proofs.Common.{◌≡◌, ℕ, Bool, List, drop, length, Option, Some, None, arith, refl, sym, ap, subst, ◌∙◌, inl, inr}
 use Rattle.relay_tasks.specs.declared.error.Error.{Error}
 use Rattle.relay_tasks.specs.declared.error.ErrorSource.TheVariants.{Downstream}
 use Rattle.relay_tasks.specs.declared.error.Fail.{Fail}
@@ -16,8 +16,7 @@ use Rattle.relay_core.specs.Told.{failed, paused, written}
 use Rattle.relay_core.specs.declared.piece.Piece.{Piece}
 use Rattle.relay_core.specs.declared.told.Told.{Told}
 use Rattle.relay_sides.specs.declared.client_side.ClientSide.{ClientSide}
-use Rattle.relay_modules.specs.declared.seen.Seen.{Seen}
-use Rattle.relay_hooks.specs.Standing.{Standing}
+use Rattle.relay_session.specs.declared.session.HttpSession.{HttpSession}
 use Rattle.relay_tasks.specs.declared.log.LogEntry.{LogEntry}
 use Rattle.relay_filters.specs.Hooked.{HookedPast, IsHooked, IsQuiet, state_of_side}
 use Rattle.relay_filters.specs.Segments.{InSegments}
@@ -111,47 +110,51 @@ told_written before after put.Silent writes = ap (λ (x : DownState). x.told) wr
 told_written before after (put.Failed fault) writes = ap (λ (x : DownState). x.told) writes
 told_written before after put.OutOfMemory writes = ap (λ (x : DownState). x.told) writes
 
--- what it tells behind a piece that hooks were lent its session for
+-- what it tells is left where hooks were lent its session
+pub told_lent : (side lent : ClientSide) → Swapped side lent → lent.told ≡ side.told
+told_lent side lent rest = ap (λ (x : ClientSide). x.told) rest
+
+-- and so it is behind a piece
 pub told_given : (side given lent : ClientSide) (piece : Piece)
     → GivesPiece (state_of_side side) (state_of_side given) piece → Swapped given lent
     → lent.told ≡ side.told
 told_given side given lent piece gives rest =
-    ap (λ (x : ClientSide). x.told) rest ∙ ap (λ (x : DownState). x.told) gives.exact
+    told_lent given lent rest ∙ ap (λ (x : DownState). x.told) gives.exact
 
 -- ---- the past of the side
 
 -- what passed goes on, and so does what is said of errors and calls
-pub past_goes : {inner : DownPast → Type 0} {allows : Standing → LogEntry → Type 0}
-    {method : List ℕ} {seen : Seen} {mark first : ℕ} {oh a ended u rf stood : Bool}
+pub past_goes : {inner : DownPast → Type 0} {method : List ℕ} {c : HttpSession}
+    {called log : List LogEntry} {oh a ended u rf stood : Bool}
     {st : Option Fail} {told inner_told : Told} {blames : DownPast → Error → Type 0}
     {put batched closing : List HttpTask} {error : Option Error}
-    → IsQuiet st told inner_told → InSegments oh st (drop first seen.log)
-    → DownGoes (IsHooked inner allows method seen mark first oh a ended u rf stood st) blames put
+    → IsQuiet st told inner_told → InSegments oh st (drop (length called) log)
+    → DownGoes (IsHooked inner method c called log oh a ended u rf stood st) blames put
     batched closing error
     → DownGoes
-    (HookedPast inner allows method seen mark first oh a ended u rf stood st told inner_told) blames
+    (HookedPast inner method c called log oh a ended u rf stood st told inner_told) blames
     put batched closing error
-past_goes {inner} {allows} {method} {seen} {mark} {first} {oh} {a} {ended} {u} {rf} {stood} {st}
+past_goes {inner} {method} {c} {called} {log} {oh} {a} {ended} {u} {rf} {stood} {st}
     {told} {inner_told} {blames} {put} {batched} {closing} {error} quiet calls g =
-    goes_so (IsHooked inner allows method seen mark first oh a ended u rf stood st)
-    (HookedPast inner allows method seen mark first oh a ended u rf stood st told inner_told) blames
+    goes_so (IsHooked inner method c called log oh a ended u rf stood st)
+    (HookedPast inner method c called log oh a ended u rf stood st told inner_told) blames
     put batched closing error
     (λ q stands. record { passed = stands; quiet = quiet; calls = calls }) g
 
 -- the same behind a batch that was refused
-pub past_refused : {inner : DownPast → Type 0} {allows : Standing → LogEntry → Type 0}
-    {method : List ℕ} {seen : Seen} {mark first : ℕ} {oh a ended u rf stood : Bool}
+pub past_refused : {inner : DownPast → Type 0} {method : List ℕ} {c : HttpSession}
+    {called log : List LogEntry} {oh a ended u rf stood : Bool}
     {st : Option Fail} {told inner_told : Told}
     {refuses : DownPast → List HttpTask → Error → Type 0} {p : DownPast} {tasks : List HttpTask}
     {why : Fail}
-    → IsQuiet st told inner_told → InSegments oh st (drop first seen.log)
-    → BatchRefused (IsHooked inner allows method seen mark first oh a ended u rf stood st) refuses p
+    → IsQuiet st told inner_told → InSegments oh st (drop (length called) log)
+    → BatchRefused (IsHooked inner method c called log oh a ended u rf stood st) refuses p
     tasks why
     → BatchRefused
-    (HookedPast inner allows method seen mark first oh a ended u rf stood st told inner_told)
+    (HookedPast inner method c called log oh a ended u rf stood st told inner_told)
     refuses p tasks why
-past_refused {inner} {allows} {method} {seen} {mark} {first} {oh} {a} {ended} {u} {rf} {stood} {st}
+past_refused {inner} {method} {c} {called} {log} {oh} {a} {ended} {u} {rf} {stood} {st}
     {told} {inner_told} {refuses} {p} {tasks} {why} quiet calls g =
-    refused_so (IsHooked inner allows method seen mark first oh a ended u rf stood st)
-    (HookedPast inner allows method seen mark first oh a ended u rf stood st told inner_told)
+    refused_so (IsHooked inner method c called log oh a ended u rf stood st)
+    (HookedPast inner method c called log oh a ended u rf stood st told inner_told)
     refuses p tasks why (λ q stands. record { passed = stands; quiet = quiet; calls = calls }) g

@@ -8,7 +8,6 @@ use Rattle.relay_tasks.specs.declared.hook.Hook.TheVariants as hook
 use Rattle.relay_tasks.specs.declared.log.Item.TheVariants as item
 use Rattle.relay_tasks.specs.declared.log.LogEntry.{LogEntry}
 use Rattle.relay_tasks.specs.declared.task.HttpTask.{HttpTask}
-use Rattle.relay_core.specs.Past.{DownPast}
 use Rattle.relay_core.specs.declared.piece.Piece.{Piece}
 use Rattle.relay_modules.specs.declared.seen.Seen.{Seen}
 use Rattle.relay_hooks.specs.Call.{Left, entry, failed, only}
@@ -17,7 +16,6 @@ use Rattle.relay_hooks.specs.Standing.{Standing}
 use Rattle.relay_calls.specs.Calls.{Calls}
 use Rattle.relay_calls.specs.Entry.{cleared}
 use Rattle.relay_filters.specs.Chain.{Refuses}
-use Rattle.relay_filters.specs.Hooked.{IsHooked}
 use Rattle.relay_filters.specs.Request.{Filtered, Filters, is_last}
 use Rattle.relay_filters.specs.Response.{BatchPasses, BatchStops, Outcome}
 use Rattle.relay_filters.specs.Segments.{InSegments, LastCalls, RefusedIn, Segment, joined}
@@ -33,20 +31,19 @@ joined_push (x ∷ xs) es =
     ap (λ (l : List LogEntry). x ++ l) (joined_push xs es) ∙ sym (append_assoc x (joined xs) es)
 
 -- the side's own calls behind new ones
-own_more : (before own es log log' : List LogEntry) (first : ℕ) → log ≡ before ++ own
-    → length before ≡ first → log' ≡ log ++ es → drop first log' ≡ drop first log ++ es
-own_more before own es log log' first parts began more =
+own_more : (called own es log log' : List LogEntry) → log ≡ called ++ own → log' ≡ log ++ es
+    → drop (length called) log' ≡ drop (length called) log ++ es
+own_more called own es log log' parts more =
     rw more
     (rw parts
-    (rw (append_assoc before own es)
-    (rw (sym began)
-    (drop-append_seam before (own ++ es)
-    ∙ ap (λ (l : List LogEntry). l ++ es) (sym (drop-append_seam before own))))))
+    (rw (append_assoc called own es)
+    (drop-append_seam called (own ++ es)
+    ∙ ap (λ (l : List LogEntry). l ++ es) (sym (drop-append_seam called own)))))
 
 -- no call is its own where all stood before
-pub own_none : (first : ℕ) (log : List LogEntry) → first ≡ length log → drop first log ≡ []
-own_none first log is =
-    ap (λ (n : ℕ). drop n log) is
+pub own_none : (called log : List LogEntry) → called ≡ log → drop (length called) log ≡ []
+own_none called log is =
+    ap (λ (l : List LogEntry). drop (length l) log) is
     ∙ ap (λ (l : List LogEntry). drop (length log) l) (sym (append-nil log))
     ∙ drop-append_seam log []
 
@@ -92,47 +89,47 @@ segments_stop oh why es fs s stops = record {
 
 -- ---- the calls of an answer
 
-module _ (inner : DownPast → Type 0) (allows : Standing → LogEntry → Type 0) (method : List ℕ)
-    (seen : Seen) (mark first : ℕ) (oh a ended u rf stood : Bool) (st : Option Fail) (p : DownPast)
-    (h : IsHooked inner allows method seen mark first oh a ended u rf stood st p) (on : st ≡ None)
-    (s : InSegments oh st (drop first seen.log)) (seen' : Seen)
+module _ (called own log : List LogEntry) (parts : log ≡ called ++ own) (oh : Bool)
+    (st : Option Fail) (on : st ≡ None) (s : InSegments oh st (drop (length called) log))
+    (seen' : Seen)
   where
     -- calls that passed
-    more_pass : (fs : List LogEntry) → seen'.log ≡ seen.log ++ fs → Segment oh fs
-        → InSegments oh st (drop first seen'.log)
+    more_pass : (fs : List LogEntry) → seen'.log ≡ log ++ fs → Segment oh fs
+        → InSegments oh st (drop (length called) seen'.log)
     more_pass fs more passes =
-        subst (λ (o : Option Fail). InSegments oh o (drop first seen'.log)) (sym on)
+        subst (λ (o : Option Fail). InSegments oh o (drop (length called) seen'.log)) (sym on)
         (subst (λ (l : List LogEntry). InSegments oh None l)
-        (sym (own_more h.before h.own fs seen.log seen'.log first h.parts h.began more))
-        (segments_push oh (drop first seen.log) fs
-        (subst (λ (o : Option Fail). InSegments oh o (drop first seen.log)) on s) passes))
+        (sym (own_more called own fs log seen'.log parts more))
+        (segments_push oh (drop (length called) log) fs
+        (subst (λ (o : Option Fail). InSegments oh o (drop (length called) log)) on s) passes))
 
     -- calls for which the side stops
-    more_stop : (why : Fail) (fs : List LogEntry) → seen'.log ≡ seen.log ++ fs
-        → LastCalls oh (Some why) fs → InSegments oh (Some why) (drop first seen'.log)
+    more_stop : (why : Fail) (fs : List LogEntry) → seen'.log ≡ log ++ fs
+        → LastCalls oh (Some why) fs → InSegments oh (Some why) (drop (length called) seen'.log)
     more_stop why fs more stops =
         subst (λ (l : List LogEntry). InSegments oh (Some why) l)
-        (sym (own_more h.before h.own fs seen.log seen'.log first h.parts h.began more))
-        (segments_stop oh why (drop first seen.log) fs
-        (subst (λ (o : Option Fail). InSegments oh o (drop first seen.log)) on s) stops)
+        (sym (own_more called own fs log seen'.log parts more))
+        (segments_stop oh why (drop (length called) log) fs
+        (subst (λ (o : Option Fail). InSegments oh o (drop (length called) log)) on s) stops)
 
     -- the entry of a call with a piece
-    abbrev piece_entry : (app : Standing → LogEntry → Type 0) (old : Seen) (mark' : ℕ)
+    abbrev piece_entry : (app : Standing → LogEntry → Type 0) (old : Seen) (mark mark' : ℕ)
         (bytes : Option (List ℕ)) (end : Bool) (left : Left)
         → Calls app hook.RequestBodyFilter (item.Piece bytes end) old mark seen' mark' left
         → LogEntry
-    piece_entry app old mark' bytes end left call =
+    piece_entry app old mark mark' bytes end left call =
         entry hook.RequestBodyFilter (item.Piece bytes end) (moment (cleared old) mark) left
         (moment call.returned mark')
 
     -- a piece passed its filter
-    pub segments_piece : (app : Standing → LogEntry → Type 0) (old : Seen) (mark' : ℕ)
-        (ended' : Bool) (piece made : Piece) → old.log ≡ seen.log
+    pub segments_piece : (app : Standing → LogEntry → Type 0) (old : Seen) (mark mark' : ℕ)
+        (ended' : Bool) (piece made : Piece) → old.log ≡ log
         → Filtered app ended' piece made old mark seen' mark'
-        → InSegments oh st (drop first seen'.log)
-    segments_piece app old mark' ended' piece made same f =
+        → InSegments oh st (drop (length called) seen'.log)
+    segments_piece app old mark mark' ended' piece made same f =
         let end = is_last piece in
-        let e = piece_entry app old mark' piece.bytes end (only (item.Piece f.left end)) f.call in
+        let e = piece_entry app old mark mark' piece.bytes end (only (item.Piece f.left end))
+        f.call in
         more_pass (e ∷ []) (f.call.log ∙ ap (λ (l : List LogEntry). l ++ e ∷ []) same)
         (segments.Segment.of_piece e refl
         (record {
@@ -145,15 +142,16 @@ module _ (inner : DownPast → Type 0) (allows : Standing → LogEntry → Type 
         }) refl)
 
     -- it refused it, or memory was wanted
-    pub segments_refused : (app : Standing → LogEntry → Type 0) (old : Seen) (mark' : ℕ)
-        (ended' : Bool) (piece : Piece) (why : Fail) → old.log ≡ seen.log
+    pub segments_refused : (app : Standing → LogEntry → Type 0) (old : Seen) (mark mark' : ℕ)
+        (ended' : Bool) (piece : Piece) (why : Fail) → old.log ≡ log
         → Filters app ended' piece (Err why) old mark seen' mark'
-        → InSegments oh (Some why) (drop first seen'.log)
-    segments_refused app old mark' ended' piece fail.OutOfMemory same f =
-        more_stop fail.OutOfMemory [] (f ∙ same ∙ sym (append-nil seen.log)) (inl refl)
-    segments_refused app old mark' ended' piece (fail.Error error) same f =
+        → InSegments oh (Some why) (drop (length called) seen'.log)
+    segments_refused app old mark mark' ended' piece fail.OutOfMemory same f =
+        more_stop fail.OutOfMemory [] (f ∙ same ∙ sym (append-nil log)) (inl refl)
+    segments_refused app old mark mark' ended' piece (fail.Error error) same f =
         let end = is_last piece in
-        let e = piece_entry app old mark' piece.bytes end (failed (item.Piece f.left end) error)
+        let e = piece_entry app old mark mark' piece.bytes end
+        (failed (item.Piece f.left end) error)
         f.call in
         more_stop (fail.Error error) (e ∷ [])
         (f.call.log ∙ ap (λ (l : List LogEntry). l ++ e ∷ []) same)
@@ -168,23 +166,27 @@ module _ (inner : DownPast → Type 0) (allows : Standing → LogEntry → Type 
         }) refl)
 
     -- a batch passed its filters
-    pub segments_batch : (old : Seen) (mark' : ℕ) (stand : Bool) (tasks made : List HttpTask)
-        → old.log ≡ seen.log
+    pub segments_batch : (allows : Standing → LogEntry → Type 0) (old : Seen) (mark mark' : ℕ)
+        (stand : Bool) (tasks made : List HttpTask)
+        → old.log ≡ log
         → Outcome allows (λ es out. BatchPasses oh stand tasks es out) (BatchStops oh stand tasks)
-        (Refuses oh) (Ok made) old mark seen' mark' → InSegments oh st (drop first seen'.log)
-    segments_batch old mark' stand tasks made same (es, adds, b) =
+        (Refuses oh) (Ok made) old mark seen' mark' → InSegments oh st
+        (drop (length called) seen'.log)
+    segments_batch allows old mark mark' stand tasks made same (es, adds, b) =
         more_pass es (adds.log ∙ ap (λ (l : List LogEntry). l ++ es) same)
         (segments.Segment.of_batch stand tasks made b)
 
     -- one of them refused it, or memory was wanted
-    pub segments_stopped : (old : Seen) (mark' : ℕ) (stand : Bool) (tasks : List HttpTask)
-        (why : Fail) → old.log ≡ seen.log
+    pub segments_stopped : (allows : Standing → LogEntry → Type 0) (old : Seen) (mark mark' : ℕ)
+        (stand : Bool) (tasks : List HttpTask)
+        (why : Fail) → old.log ≡ log
         → Outcome {Y = List HttpTask} allows (λ es out. BatchPasses oh stand tasks es out)
         (BatchStops oh stand tasks) (Refuses oh) (Err why) old mark seen' mark'
-        → InSegments oh (Some why) (drop first seen'.log)
-    segments_stopped old mark' stand tasks (fail.Error error) same (es, adds, fed, refused) =
+        → InSegments oh (Some why) (drop (length called) seen'.log)
+    segments_stopped allows old mark mark' stand tasks (fail.Error error) same
+        (es, adds, fed, refused) =
         more_stop (fail.Error error) es (adds.log ∙ ap (λ (l : List LogEntry). l ++ es) same)
         (segments.RefusedIn.of_batch stand tasks fed refused)
-    segments_stopped old mark' stand tasks fail.OutOfMemory same (es, adds, fed) =
+    segments_stopped allows old mark mark' stand tasks fail.OutOfMemory same (es, adds, fed) =
         more_stop fail.OutOfMemory es (adds.log ∙ ap (λ (l : List LogEntry). l ++ es) same)
         (inr (record { stand = stand; tasks = tasks; stops = fed }))

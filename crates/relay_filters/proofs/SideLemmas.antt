@@ -13,32 +13,32 @@ use Rattle.relay_tasks.specs.declared.task.HttpTask.TheVariants as task
 use Rattle.relay_tasks.specs.Error.{IsMemoryOr}
 use Rattle.relay_tasks.specs.Task.{is_end}
 use Rattle.relay_session.specs.Reading.{head_of}
+use Rattle.relay_session.specs.declared.session.HttpSession.{HttpSession}
 use Rattle.relay_core.specs.Past.{BatchRefused, DownGoes, DownPast, error_of_fail}
 use Rattle.relay_core.specs.Pipe.{is_failure}
 use Rattle.relay_core.specs.Piece.{put_of}
 use Rattle.relay_core.specs.declared.piece.Piece.{Piece}
-use Rattle.relay_modules.specs.Module.{ModuleCall}
 use Rattle.relay_modules.specs.declared.seen.Seen.{Seen}
 use Rattle.relay_hooks.specs.Call.{Left, entry, failed, only}
 use Rattle.relay_hooks.specs.Session.{moment}
-use Rattle.relay_hooks.specs.Standing.{Standing, standing}
+use Rattle.relay_hooks.specs.Standing.{Standing}
 use Rattle.relay_calls.specs.Calls.{Calls}
 use Rattle.relay_calls.specs.Entry.{cleared}
-use Rattle.relay_calls.specs.Log.{IsAllowed, Walk, modules_in, requests_in, responses_in}
-use Rattle.relay_calls.proofs.CallLemmas.{CallsOf-walks}
-use Rattle.relay_calls.proofs.LogLemmas.{Views-same, Walk-append, modules_in-append, requests_in-append, responses_in-append}
+use Rattle.relay_calls.specs.Log.{modules_in, requests_in, responses_in}
+use Rattle.relay_calls.proofs.LogLemmas.{modules_in-append, requests_in-append, responses_in-append}
 use Rattle.relay_sides.specs.Filtered.{is_head_request}
 use Rattle.relay_filters.specs.Chain.{AllPass, PassedModules, PassesModules, Refuses, by_hook, TaskChain}
 use Rattle.relay_filters.specs.Request.{Filtered, Filters, PassesRequest, PieceCall, is_last, piece_of}
 use Rattle.relay_filters.specs.Response as batches
-use Rattle.relay_filters.specs.Response.{Adds, AddsSome, BatchPasses, BatchStops, MakesOf, Outcome, PartsOf, Stage, WasMade}
-use Rattle.relay_filters.specs.Hooked.{BlamesOver, IsHooked, IsLogged, RefusesOver, TakesOn, by_filter, by_inner, failure_in_front, had_stopped, inside, refused_at_once}
+use Rattle.relay_filters.specs.Response.{BatchPasses, BatchStops, MakesOf, Outcome, PartsOf, Stage, WasMade}
+use Rattle.relay_filters.specs.Hooked.{BlamesOver, IsHooked, RefusesOver, TakesOn, by_filter, by_inner, failure_in_front, had_stopped, inside, refused_at_once}
 use Rattle.relay_filters.proofs.ChainLemmas.{all_append, all_split, parts_append, refuses_behind}
 use Rattle.relay_filters.proofs.RequestLemmas.{one_lost, one_piece, one_refused, same_request}
 
 -- ---- answers
 
-some_none : {A : Type 0} (why : Fail) → Some why ≡ None → A
+-- something is not none
+pub some_none : {A : Type 0} (why : Fail) → Some why ≡ None → A
 some_none why is = cc
 
 -- the error of a failure is its own
@@ -56,10 +56,6 @@ Going = ◌≡◌ {A = Option Fail} None None
 -- out of memory is no error
 no_memory : {A : Type 0} {e : Error} → Some fail.OutOfMemory ≡ Some (fail.Error e) → A
 no_memory is = cc
-
--- no memory was wanted of a side that goes on
-going_on : ◌≡◌ {A = Option Fail} None (Some fail.OutOfMemory) → ⊥
-going_on is = cc
 
 -- ---- the response
 
@@ -251,7 +247,7 @@ record Takes (oh stood stand : Bool) (own es : List LogEntry) (on' : Type 0)
   pub last : List HttpTask
   pub are : first ++ last ≡ tasks
   pub makes : MakesOf oh (stood && stand) (own ++ es) on' (came ++ first) (queued ++ front)
-  pub made : WasMade oh stand last behind
+  pub made : WasMade oh stand (own ++ es) last behind
 
 makes_front : (oh stood stand : Bool) (own es : List LogEntry) (on on' : Type 0)
     (came tasks queued made front behind : List HttpTask) → on → (on' → ⊥)
@@ -266,6 +262,14 @@ makes_front oh stood stand own es on on' came tasks queued made front behind o o
     let chain = PassedModules (stood && stand) in
     let t = all_split (TaskChain oh) b.by_app tasks s.first s.last
     (subst (λ (l : List HttpTask). AllPass (TaskChain oh) b.by_app tasks l) s.are b.pass) in
+    let apps_are : responses_in (own ++ es) ≡ (responses_in own ++ t.calls) ++ t.more =
+    responses_more own es b.by_app b.by_modules parts
+    ∙ ap (λ (l : List LogEntry). responses_in own ++ l) t.parts
+    ∙ sym (append_assoc (responses_in own) t.calls t.more) in
+    let modules_are : modules_in (own ++ es) ≡ (modules_in own ++ s.calls) ++ s.more =
+    modules_more own es b.by_app b.by_modules parts
+    ∙ ap (λ (l : List LogEntry). modules_in own ++ l) s.parts
+    ∙ sym (append_assoc (modules_in own) s.calls s.more) in
     record {
       first = t.first;
       last = t.last;
@@ -273,17 +277,12 @@ makes_front oh stood stand own es on on' came tasks queued made front behind o o
       makes = record {
         mid = r.mid ++ s.first;
         by_app = stage_drop (TaskChain oh) (responses_in own ++ t.calls)
-            (responses_in (own ++ es)) t.more on on' (came ++ t.first) (r.mid ++ s.first)
-            (responses_more own es b.by_app b.by_modules parts
-            ∙ ap (λ (l : List LogEntry). responses_in own ++ l) t.parts
-            ∙ sym (append_assoc (responses_in own) t.calls t.more)) off
+            (responses_in (own ++ es)) t.more on on' (came ++ t.first) (r.mid ++ s.first) apps_are
+            off
             (stage_more (TaskChain oh) (responses_in own) (responses_in own ++ t.calls) t.calls on
             on came t.first r.mid s.first refl o r.by_app t.pass);
         by_modules = stage_drop chain (modules_in own ++ s.calls) (modules_in (own ++ es))
-            s.more on on' (r.mid ++ s.first) (queued ++ front)
-            (modules_more own es b.by_app b.by_modules parts
-            ∙ ap (λ (l : List LogEntry). modules_in own ++ l) s.parts
-            ∙ sym (append_assoc (modules_in own) s.calls s.more)) off
+            s.more on on' (r.mid ++ s.first) (queued ++ front) modules_are off
             (stage_more chain (modules_in own) (modules_in own ++ s.calls) s.calls on on r.mid
             s.first queued front refl o
             (stage_so (PassedModules stood) chain (passed_on stood stand) (modules_in own) on r.mid
@@ -293,8 +292,12 @@ makes_front oh stood stand own es on on' came tasks queued made front behind o o
       };
       made = record {
         mid = s.last;
+        apps = responses_in own ++ t.calls;
         by_app = t.more;
+        are_apps = apps_are;
+        modules = modules_in own ++ s.calls;
         by_modules = s.more;
+        are_modules = modules_are;
         pass = t.pass_on;
         made_so = s.pass_on;
       };
@@ -303,24 +306,21 @@ makes_front oh stood stand own es on on' came tasks queued made front behind o o
 -- ---- the inner side alone
 
 -- what passed goes on where the inner side does, and no filter was called
-stands_on : (inner inner' : DownPast → Type 0) (allows : Standing → LogEntry → Type 0)
-    (method : List ℕ) (seen : Seen) (mark first : ℕ) (oh a ended ended' u u' rf stood : Bool)
+stands_on : (inner inner' : DownPast → Type 0) (method : List ℕ) (c : HttpSession)
+    (called log : List LogEntry) (oh a ended ended' u u' rf stood : Bool)
     (st : Option Fail) (p p' : DownPast) (came' queued' : List HttpTask)
-    (h : IsHooked inner allows method seen mark first oh a ended u rf stood st p)
+    (h : IsHooked inner method c called log oh a ended u rf stood st p)
     → (u' ≡ false → (u ≡ false) × (ended' ≡ ended))
     → came' ≡ h.came → queued' ≡ h.queued → p'.put ≡ p.put → p'.batched ≡ p.batched
     → inner' (inside p' came' queued')
-    → IsHooked inner' allows method seen mark first oh a ended' u' rf stood st p'
-stands_on inner inner' allows method seen mark first oh a ended ended' u u' rf stood st p p' came'
-    queued' h plain is is' same same' holds = record {
+    → IsHooked inner' method c called log oh a ended' u' rf stood st p'
+stands_on inner inner' method c called log oh a ended ended' u u' rf stood st p p' came' queued'
+    h plain is is' same same' holds = record {
       came = came';
       queued = queued';
       holds = holds;
-      before = h.before;
       own = h.own;
       parts = h.parts;
-      began = h.began;
-      logged = h.logged;
       request = λ not_up.
           let both = plain not_up in
           subst (λ (b : Bool). PassesRequest a b (requests_in h.own) (st ≡ None) came' p'.put)
@@ -336,20 +336,20 @@ stands_on inner inner' allows method seen mark first oh a ended ended' u u' rf s
 
 -- the inner side went on
 pub goes_on : (inner inner' : DownPast → Type 0) (blames' : DownPast → Error → Type 0)
-    (allows : Standing → LogEntry → Type 0) (method : List ℕ) (seen : Seen) (mark first : ℕ)
+    (method : List ℕ) (c : HttpSession) (called log : List LogEntry)
     (oh a ended ended' u u' rf stood : Bool) (st : Option Fail) (p : DownPast)
     (put_in put batched_in batched closing : List HttpTask) (error : Option Error)
-    (h : IsHooked inner allows method seen mark first oh a ended u rf stood st p)
+    (h : IsHooked inner method c called log oh a ended u rf stood st p)
     → (u' ≡ false → (u ≡ false) × (ended' ≡ ended))
     → put_in ≡ h.came → put ≡ p.put → batched_in ≡ h.queued → batched ≡ p.batched
     → DownGoes inner' blames' put_in batched_in closing error
-    → DownGoes (IsHooked inner' allows method seen mark first oh a ended' u' rf stood st)
+    → DownGoes (IsHooked inner' method c called log oh a ended' u' rf stood st)
     (λ past e. BlamesOver inner' blames' st past e) put batched closing error
-goes_on inner inner' blames' allows method seen mark first oh a ended ended' u u' rf stood st p
-    put_in put batched_in batched closing error h plain is same is' same' g = record {
+goes_on inner inner' blames' method c called log oh a ended ended' u u' rf stood st p put_in put
+    batched_in batched closing error h plain is same is' same' g = record {
       past = record g.past { put = put; batched = batched };
       stands =
-          stands_on inner inner' allows method seen mark first oh a ended ended' u u' rf stood st p
+          stands_on inner inner' method c called log oh a ended ended' u u' rf stood st p
           (record g.past { put = put; batched = batched }) g.past.put g.past.batched h plain
           (g.is_put ∙ is) (g.is_batched ∙ is') same same' g.stands;
       is_put = refl;
@@ -358,21 +358,12 @@ goes_on inner inner' blames' allows method seen mark first oh a ended ended' u u
       blamed = λ e told. inl (g.past.put, g.past.batched, g.stands, g.blamed e told);
     }
 
--- a side whose session has no head is none of which something passed
-pub no_head : {A : Type 0} (inner : DownPast → Type 0) (allows : Standing → LogEntry → Type 0)
-    (method : List ℕ) (seen : Seen) (mark first : ℕ) (oh a ended u rf stood : Bool)
-    (st : Option Fail) (p : DownPast) → st ≡ None → (IsSome (head_of seen.downstream.reading) → ⊥)
-    → IsHooked inner allows method seen mark first oh a ended u rf stood st p → A
-no_head inner allows method seen mark first oh a ended u rf stood st p on none h =
-    absurd (none (h.head on))
-
 -- ---- a piece
 
--- what no call of a piece fails to say: the log, the walk and the head behind it
-module _ (inner : DownPast → Type 0) (app : Standing → LogEntry → Type 0)
-    (modules : ModuleCall → Type 0) (method : List ℕ) (seen : Seen) (mark first : ℕ)
-    (oh a ended u rf stood : Bool) (p : DownPast)
-    (h : IsHooked inner (IsAllowed app modules) method seen mark first oh a ended u rf stood None p)
+-- what no call of a piece fails to say: the log and the head behind it
+module _ (inner : DownPast → Type 0) (app : Standing → LogEntry → Type 0) (method : List ℕ)
+    (seen : Seen) (mark : ℕ) (called : List LogEntry) (oh a ended u rf stood : Bool) (p : DownPast)
+    (h : IsHooked inner method seen.downstream called seen.log oh a ended u rf stood None p)
     (bytes : Option (List ℕ)) (end : Bool) (seen' : Seen) (mark' : ℕ) (left : Left)
     (call : Calls app hook.RequestBodyFilter (item.Piece bytes end) seen mark seen' mark' left)
   where
@@ -381,25 +372,10 @@ module _ (inner : DownPast → Type 0) (app : Standing → LogEntry → Type 0)
     entered = entry hook.RequestBodyFilter (item.Piece bytes end) (moment (cleared seen) mark) left
         (moment call.returned mark')
 
-    pub parts_on : seen'.log ≡ h.before ++ (h.own ++ entered ∷ [])
+    pub parts_on : seen'.log ≡ called ++ (h.own ++ entered ∷ [])
     parts_on =
         call.log ∙ ap (λ (l : List LogEntry). l ++ entered ∷ []) h.parts
-        ∙ append_assoc h.before h.own (entered ∷ [])
-
-    pub walks_on : (st : Option Fail)
-        → IsLogged (IsAllowed app modules) (h.own ++ entered ∷ []) seen' mark' st
-    walks_on st = record {
-      from = h.logged.from;
-      to = standing None false (moment seen' mark');
-      walk =
-          Walk-append (IsAllowed app modules) h.own (entered ∷ []) h.logged.from
-          (standing None false (moment seen mark)) (standing None false (moment seen' mark'))
-          (subst (λ (s : Standing). Walk (IsAllowed app modules) h.logged.from h.own s)
-          (h.logged.at going_on) h.logged.walk)
-          (CallsOf-walks app modules None false hook.RequestBodyFilter (item.Piece bytes end)
-          seen mark seen' mark' left call refl);
-      at = λ so. refl;
-    }
+        ∙ append_assoc called h.own (entered ∷ [])
 
     -- the response is as it was
     pub response_as : (st : Option Fail) → (TakesOn st rf → TakesOn None rf)
@@ -420,29 +396,29 @@ module _ (inner : DownPast → Type 0) (app : Standing → LogEntry → Type 0)
 
 -- a piece was read and filtered
 reads_open : (inner inner' : DownPast → Type 0) (blames' : DownPast → Error → Type 0)
-    (app : Standing → LogEntry → Type 0) (modules : ModuleCall → Type 0) (method : List ℕ)
-    (seen : Seen) (mark first : ℕ) (oh a ended u u' rf stood : Bool) (p : DownPast)
+    (app : Standing → LogEntry → Type 0) (method : List ℕ) (seen : Seen) (mark : ℕ)
+    (called : List LogEntry) (oh a ended u u' rf stood : Bool) (p : DownPast)
     (piece made : Piece) (seen' : Seen) (mark' : ℕ)
-    (h : IsHooked inner (IsAllowed app modules) method seen mark first oh a ended u rf stood None p)
+    (h : IsHooked inner method seen.downstream called seen.log oh a ended u rf stood None p)
     → u' ≡ u
     → (is_last piece ≡ true → list_any is_end (h.came ++ put_of u piece) ≡ true)
     → Filtered app ended piece made seen mark seen' mark'
     → DownGoes inner' blames' (h.came ++ put_of u piece) h.queued p.closing None
-    → DownGoes (IsHooked inner' (IsAllowed app modules) method seen' mark' first oh a
+    → DownGoes (IsHooked inner' method seen'.downstream called seen'.log oh a
     (ended || made.upstream_end) u' rf stood None)
     (λ past e. BlamesOver inner' blames' None past e) (p.put ++ put_of u made) p.batched p.closing
     None
-reads_open inner inner' blames' app modules method seen mark first oh a ended u u' rf stood p piece
+reads_open inner inner' blames' app method seen mark called oh a ended u u' rf stood p piece
     made seen' mark' h
     up ends f g =
     let end = is_last piece in
     let left = f.left in
-    let e = entered inner app modules method seen mark first oh a ended u rf stood p h piece.bytes
+    let e = entered inner app method seen mark called oh a ended u rf stood p h piece.bytes
     end seen' mark'
     (only (item.Piece left end)) f.call in
     let one = piece_of ended end piece.client_end (is_some piece.bytes) left in
     subst (λ (m : Piece). DownGoes
-    (IsHooked inner' (IsAllowed app modules) method seen' mark' first oh a
+    (IsHooked inner' method seen'.downstream called seen'.log oh a
     (ended || m.upstream_end) u' rf stood None)
     (λ past e. BlamesOver inner' blames' None past e) (p.put ++ put_of u m) p.batched p.closing
     None) (sym f.is_made)
@@ -452,20 +428,15 @@ reads_open inner inner' blames' app modules method seen mark first oh a ended u 
         came = g.past.put;
         queued = g.past.batched;
         holds = g.stands;
-        before = h.before;
         own = h.own ++ e ∷ [];
-        parts = parts_on inner app modules method seen mark first oh a ended u rf stood p h
+        parts = parts_on inner app method seen mark called oh a ended u rf stood p h
             piece.bytes end seen' mark'
             (only (item.Piece left end)) f.call;
-        began = h.began;
-        logged = walks_on inner app modules method seen mark first oh a ended u rf stood p h
-            piece.bytes end seen' mark'
-            (only (item.Piece left end)) f.call None;
         request = λ plain.
             let low = sym up ∙ plain in
             subst (λ (l : List LogEntry). PassesRequest a (ended || one.upstream_end) l
             Going g.past.put (p.put ++ put_of u one))
-            (sym (requests_on inner app modules method seen mark first oh a ended u rf stood p h
+            (sym (requests_on inner app method seen mark called oh a ended u rf stood p h
             piece.bytes end seen'
             mark' (only (item.Piece left end)) f.call))
             (one_piece a ended end piece.client_end u (requests_in h.own) Going h.came
@@ -484,10 +455,10 @@ reads_open inner inner' blames' app modules method seen mark first oh a ended u 
         response =
             same_response oh stood (h.own ++ e ∷ []) (TakesOn None rf) p.batched p.batched h.queued
             g.past.batched refl g.is_batched
-            (response_as inner app modules method seen mark first oh a ended u rf stood p h
+            (response_as inner app method seen mark called oh a ended u rf stood p h
             piece.bytes end seen' mark' (only (item.Piece left end)) f.call None (λ so. so));
         head = λ on.
-            head_on inner app modules method seen mark first oh a ended u rf stood p h piece.bytes
+            head_on inner app method seen mark called oh a ended u rf stood p h piece.bytes
             end seen' mark'
             (only (item.Piece left end)) f.call;
         told = λ e is. cc;
@@ -500,20 +471,20 @@ reads_open inner inner' blames' app modules method seen mark first oh a ended u 
 
 -- the filter refused a piece, or memory was wanted
 stops_open : (inner inner' : DownPast → Type 0) (blames' : DownPast → Error → Type 0)
-    (app : Standing → LogEntry → Type 0) (modules : ModuleCall → Type 0) (method : List ℕ)
-    (seen : Seen) (mark first : ℕ) (oh a ended u u' rf stood : Bool) (p : DownPast) (piece : Piece)
+    (app : Standing → LogEntry → Type 0) (method : List ℕ) (seen : Seen) (mark : ℕ)
+    (called : List LogEntry) (oh a ended u u' rf stood : Bool) (p : DownPast) (piece : Piece)
     (why : Fail) (put : List HttpTask)
-    (seen' : Seen) (mark' : ℕ) (h : IsHooked inner (IsAllowed app modules) method seen mark first
-    oh a ended u rf stood None p)
+    (seen' : Seen) (mark' : ℕ)
+    (h : IsHooked inner method seen.downstream called seen.log oh a ended u rf stood None p)
     → u' ≡ u → put ≡ p.put
     → (is_last piece ≡ true → list_any is_end (h.came ++ put_of u piece) ≡ true)
     → Filters app ended piece (Err why) seen mark seen' mark'
     → DownGoes inner' blames' (h.came ++ put_of u piece) h.queued p.closing None
-    → DownGoes (IsHooked inner' (IsAllowed app modules) method seen' mark' first oh a ended u' rf
+    → DownGoes (IsHooked inner' method seen'.downstream called seen'.log oh a ended u' rf
     stood (Some why))
     (λ past e. BlamesOver inner' blames' (Some why) past e) put p.batched p.closing
     (error_of_fail why)
-stops_open inner inner' blames' app modules method seen mark first oh a ended u u' rf stood p piece
+stops_open inner inner' blames' app method seen mark called oh a ended u u' rf stood p piece
     fail.OutOfMemory
     put seen' mark' h up same ends f g = record {
       past = record g.past { put = put; batched = p.batched };
@@ -521,16 +492,8 @@ stops_open inner inner' blames' app modules method seen mark first oh a ended u 
         came = g.past.put;
         queued = g.past.batched;
         holds = g.stands;
-        before = h.before;
         own = h.own;
         parts = f ∙ h.parts;
-        began = h.began;
-        logged = record {
-          from = h.logged.from;
-          to = h.logged.to;
-          walk = h.logged.walk;
-          at = λ so. absurd (so refl);
-        };
         request = λ plain.
             one_lost a ended u (requests_in h.own) Going (Some fail.OutOfMemory ≡ None)
             h.came g.past.put p.put put piece (λ so. some_none fail.OutOfMemory so)
@@ -549,11 +512,11 @@ stops_open inner inner' blames' app modules method seen mark first oh a ended u 
       is_closing = g.is_closing;
       blamed = λ e isnt. cc;
     }
-stops_open inner inner' blames' app modules method seen mark first oh a ended u u' rf stood p piece
+stops_open inner inner' blames' app method seen mark called oh a ended u u' rf stood p piece
     (fail.Error error) put seen' mark' h up same ends f g =
     let end = is_last piece in
     let left = failed (item.Piece f.left end) error in
-    let e = entered inner app modules method seen mark first oh a ended u rf stood p h piece.bytes
+    let e = entered inner app method seen mark called oh a ended u rf stood p h piece.bytes
     end seen' mark' left
     f.call in
     record {
@@ -562,19 +525,14 @@ stops_open inner inner' blames' app modules method seen mark first oh a ended u 
         came = g.past.put;
         queued = g.past.batched;
         holds = g.stands;
-        before = h.before;
         own = h.own ++ e ∷ [];
-        parts = parts_on inner app modules method seen mark first oh a ended u rf stood p h
+        parts = parts_on inner app method seen mark called oh a ended u rf stood p h
             piece.bytes end seen' mark'
             left f.call;
-        began = h.began;
-        logged = walks_on inner app modules method seen mark first oh a ended u rf stood p h
-            piece.bytes end seen' mark'
-            left f.call (Some (fail.Error error));
         request = λ plain.
             subst (λ (l : List LogEntry). PassesRequest a ended l (Some (fail.Error error) ≡ None)
             g.past.put put)
-            (sym (requests_on inner app modules method seen mark first oh a ended u rf stood p h
+            (sym (requests_on inner app method seen mark called oh a ended u rf stood p h
             piece.bytes end seen'
             mark' left f.call))
             (one_refused a ended end u (requests_in h.own) Going
@@ -592,7 +550,7 @@ stops_open inner inner' blames' app modules method seen mark first oh a ended u 
         response =
             same_response oh stood (h.own ++ e ∷ []) (TakesOn (Some (fail.Error error)) rf)
             p.batched p.batched h.queued g.past.batched refl g.is_batched
-            (response_as inner app modules method seen mark first oh a ended u rf stood p h
+            (response_as inner app method seen mark called oh a ended u rf stood p h
             piece.bytes end seen' mark' left f.call (Some (fail.Error error))
             (λ so. some_none (fail.Error error) so.0));
         head = λ so. some_none (fail.Error error) so;
@@ -611,88 +569,62 @@ stops_open inner inner' blames' app modules method seen mark first oh a ended u 
 
 -- a piece was read and filtered
 pub reads_piece : (inner inner' : DownPast → Type 0) (blames' : DownPast → Error → Type 0)
-    (app : Standing → LogEntry → Type 0) (modules : ModuleCall → Type 0) (method : List ℕ)
-    (seen : Seen) (mark first : ℕ) (oh a ended u u' rf stood : Bool) (st : Option Fail)
+    (app : Standing → LogEntry → Type 0) (method : List ℕ) (seen : Seen) (mark : ℕ)
+    (called : List LogEntry) (oh a ended u u' rf stood : Bool) (st : Option Fail)
     (p : DownPast) (piece made : Piece)
     (seen' : Seen) (mark' : ℕ) → st ≡ None
-    → (h : IsHooked inner (IsAllowed app modules) method seen mark first oh a ended u rf stood st p)
+    → (h : IsHooked inner method seen.downstream called seen.log oh a ended u rf stood st p)
     → u' ≡ u
     → (is_last piece ≡ true → list_any is_end (h.came ++ put_of u piece) ≡ true)
     → Filtered app ended piece made seen mark seen' mark'
     → DownGoes inner' blames' (h.came ++ put_of u piece) h.queued p.closing None
-    → DownGoes (IsHooked inner' (IsAllowed app modules) method seen' mark' first oh a
+    → DownGoes (IsHooked inner' method seen'.downstream called seen'.log oh a
     (ended || made.upstream_end) u' rf stood st)
     (λ past e. BlamesOver inner' blames' st past e) (p.put ++ put_of u made) p.batched p.closing
     None
-reads_piece inner inner' blames' app modules method seen mark first oh a ended u u' rf stood
+reads_piece inner inner' blames' app method seen mark called oh a ended u u' rf stood
     (Some why) p piece made
     seen' mark' on h = some_none why on
-reads_piece inner inner' blames' app modules method seen mark first oh a ended u u' rf stood None p
+reads_piece inner inner' blames' app method seen mark called oh a ended u u' rf stood None p
     piece made seen'
     mark' on h =
-    reads_open inner inner' blames' app modules method seen mark first oh a ended u u' rf stood p
+    reads_open inner inner' blames' app method seen mark called oh a ended u u' rf stood p
     piece made seen'
     mark' h
 
 -- the filter refused a piece, or memory was wanted
 pub stops_at : (inner inner' : DownPast → Type 0) (blames' : DownPast → Error → Type 0)
-    (app : Standing → LogEntry → Type 0) (modules : ModuleCall → Type 0) (method : List ℕ)
-    (seen : Seen) (mark first : ℕ) (oh a ended u u' rf stood : Bool) (st : Option Fail)
+    (app : Standing → LogEntry → Type 0) (method : List ℕ) (seen : Seen) (mark : ℕ)
+    (called : List LogEntry) (oh a ended u u' rf stood : Bool) (st : Option Fail)
     (p : DownPast) (piece : Piece) (why : Fail)
     (put : List HttpTask) (seen' : Seen) (mark' : ℕ) → st ≡ None
-    → (h : IsHooked inner (IsAllowed app modules) method seen mark first oh a ended u rf stood st p)
+    → (h : IsHooked inner method seen.downstream called seen.log oh a ended u rf stood st p)
     → u' ≡ u
     → put ≡ p.put
     → (is_last piece ≡ true → list_any is_end (h.came ++ put_of u piece) ≡ true)
     → Filters app ended piece (Err why) seen mark seen' mark'
     → DownGoes inner' blames' (h.came ++ put_of u piece) h.queued p.closing None
-    → DownGoes (IsHooked inner' (IsAllowed app modules) method seen' mark' first oh a ended u' rf
+    → DownGoes (IsHooked inner' method seen'.downstream called seen'.log oh a ended u' rf
     stood (Some why))
     (λ past e. BlamesOver inner' blames' (Some why) past e) put p.batched p.closing
     (error_of_fail why)
-stops_at inner inner' blames' app modules method seen mark first oh a ended u u' rf stood
+stops_at inner inner' blames' app method seen mark called oh a ended u u' rf stood
     (Some before) p piece why put
     seen' mark' on h = some_none before on
-stops_at inner inner' blames' app modules method seen mark first oh a ended u u' rf stood None p
+stops_at inner inner' blames' app method seen mark called oh a ended u u' rf stood None p
     piece why put seen'
     mark' on h =
-    stops_open inner inner' blames' app modules method seen mark first oh a ended u u' rf stood p
+    stops_open inner inner' blames' app method seen mark called oh a ended u u' rf stood p
     piece why put seen'
     mark' h
 
 -- ---- a batch
 
--- the calls of a batch behind those before
-module _ (allows : Standing → LogEntry → Type 0) (own : List LogEntry) (seen : Seen) (mark : ℕ)
-    (l : IsLogged allows own seen mark None) (seen' : Seen) (es : List LogEntry) where
-  -- they lead up to the session and the mark as they are
-  logs_on : (mark' : ℕ) (st : Option Fail) → Adds allows seen mark seen' mark' es
-      → IsLogged allows (own ++ es) seen' mark' st
-  logs_on mark' st a = record {
-    from = l.from;
-    to = standing None false (moment seen' mark');
-    walk = Walk-append allows own es l.from (standing None false (moment seen mark))
-        (standing None false (moment seen' mark'))
-        (subst (λ (s : Standing). Walk allows l.from own s) (l.at going_on) l.walk) a.walk;
-    at = λ so. refl;
-  }
-
-  -- where memory was wanted that is not said
-  logs_some : (mark' : ℕ) → AddsSome allows seen mark seen' es
-      → IsLogged allows (own ++ es) seen' mark' (Some fail.OutOfMemory)
-  logs_some mark' a = record {
-    from = l.from;
-    to = a.to;
-    walk = Walk-append allows own es l.from (standing None false (moment seen mark)) a.to
-        (subst (λ (s : Standing). Walk allows l.from own s) (l.at going_on) l.walk) a.walk;
-    at = λ so. absurd (so refl);
-  }
-
 -- the log behind the calls of a batch
-parts_behind : (before own es log log' : List LogEntry) → log ≡ before ++ own → log' ≡ log ++ es
-    → log' ≡ before ++ (own ++ es)
-parts_behind before own es log log' is is' =
-    is' ∙ ap (λ (l : List LogEntry). l ++ es) is ∙ append_assoc before own es
+parts_behind : (called own es log log' : List LogEntry) → log ≡ called ++ own → log' ≡ log ++ es
+    → log' ≡ called ++ (own ++ es)
+parts_behind called own es log log' is is' =
+    is' ∙ ap (λ (l : List LogEntry). l ++ es) is ∙ append_assoc called own es
 
 -- the request is as it was
 request_same : (a ended : Bool) (own own' : List LogEntry) (on on' : Type 0)
@@ -714,18 +646,20 @@ request_same a ended own own' on on' came came' put put' is off same same' r =
 
 -- a batch passed, and the inner side queued it
 batch_open : (inner inner' : DownPast → Type 0) (blames' : DownPast → Error → Type 0)
-    (allows : Standing → LogEntry → Type 0) (method : List ℕ) (seen : Seen) (mark first : ℕ)
-    (oh a ended ended' u u' stood stand : Bool) (p : DownPast) (tasks made : List HttpTask)
+    (allows : Standing → LogEntry → Type 0) (method : List ℕ) (seen : Seen) (mark : ℕ)
+    (called : List LogEntry) (oh a ended ended' u u' stood stand : Bool) (p : DownPast)
+    (tasks made : List HttpTask)
     (seen' : Seen)
-    (mark' : ℕ) (h : IsHooked inner allows method seen mark first oh a ended u false stood None p)
+    (mark' : ℕ)
+    (h : IsHooked inner method seen.downstream called seen.log oh a ended u false stood None p)
     → (u' ≡ false → (u ≡ false) × (ended' ≡ ended))
     → Outcome allows (λ es out. BatchPasses oh stand tasks es out) (BatchStops oh stand tasks)
     (Refuses oh) (Ok made) seen mark seen' mark'
     → DownGoes inner' blames' h.came (h.queued ++ made) p.closing None
-    → DownGoes (IsHooked inner' allows method seen' mark' first oh a ended' u' false
+    → DownGoes (IsHooked inner' method seen'.downstream called seen'.log oh a ended' u' false
     (stood && stand) None)
     (λ past e. BlamesOver inner' blames' None past e) p.put (p.batched ++ tasks) p.closing None
-batch_open inner inner' blames' allows method seen mark first oh a ended ended' u u' stood stand p
+batch_open inner inner' blames' allows method seen mark called oh a ended ended' u u' stood stand p
     tasks made seen' mark' h plain (es, adds, b) g =
     let parts = batch_parts oh stand tasks es made b in
     record {
@@ -734,11 +668,8 @@ batch_open inner inner' blames' allows method seen mark first oh a ended ended' 
         came = g.past.put;
         queued = g.past.batched;
         holds = g.stands;
-        before = h.before;
         own = h.own ++ es;
-        parts = parts_behind h.before h.own es seen.log seen'.log h.parts adds.log;
-        began = h.began;
-        logged = logs_on allows h.own seen mark h.logged seen' es mark' None adds;
+        parts = parts_behind called h.own es seen.log seen'.log h.parts adds.log;
         request = λ not_up.
             let both = plain not_up in
             subst (λ (b : Bool). PassesRequest a b (requests_in (h.own ++ es)) Going g.past.put
@@ -764,18 +695,20 @@ batch_open inner inner' blames' allows method seen mark first oh a ended ended' 
 -- a batch was refused by a filter, or memory was wanted: nothing of it is queued
 stops_batch : (inner inner' : DownPast → Type 0)
     (refuses : DownPast → List HttpTask → Error → Type 0)
-    (allows : Standing → LogEntry → Type 0) (method : List ℕ) (seen : Seen) (mark first : ℕ)
-    (oh a ended u stood stand : Bool) (p : DownPast) (tasks : List HttpTask) (why : Fail)
+    (allows : Standing → LogEntry → Type 0) (method : List ℕ) (seen : Seen) (mark : ℕ)
+    (called : List LogEntry) (oh a ended u stood stand : Bool) (p : DownPast)
+    (tasks : List HttpTask) (why : Fail)
     (seen' : Seen)
     (mark' : ℕ) → ((q : DownPast) → inner q → inner' q)
-    → IsHooked inner allows method seen mark first oh a ended u false stood None p
+    → IsHooked inner method seen.downstream called seen.log oh a ended u false stood None p
     → Outcome {Y = List HttpTask} allows (λ es out. BatchPasses oh stand tasks es out)
     (BatchStops oh stand tasks) (Refuses oh) (Err why) seen mark seen' mark'
-    → BatchRefused (IsHooked inner' allows method seen' mark' first oh a ended u false stood
+    → BatchRefused
+    (IsHooked inner' method seen'.downstream called seen'.log oh a ended u false stood
     (Some why)) (λ past left e.
-    RefusesOver inner' refuses oh stood stand false (Some why) first seen'.log past left e)
+    RefusesOver inner' refuses oh stood stand false (Some why) called seen'.log past left e)
     p tasks why
-stops_batch inner inner' refuses allows method seen mark first oh a ended u stood stand p tasks
+stops_batch inner inner' refuses allows method seen mark called oh a ended u stood stand p tasks
     (fail.Error error) seen' mark' so_inside h (es, adds, fed, refused) =
     let parts = stop_parts oh stand tasks es fed in
     record {
@@ -787,12 +720,8 @@ stops_batch inner inner' refuses allows method seen mark first oh a ended u stoo
         came = h.came;
         queued = h.queued;
         holds = so_inside (inside p h.came h.queued) h.holds;
-        before = h.before;
         own = h.own ++ es;
-        parts = parts_behind h.before h.own es seen.log seen'.log h.parts adds.log;
-        began = h.began;
-        logged = logs_on allows h.own seen mark h.logged seen' es mark' (Some (fail.Error error))
-            adds;
+        parts = parts_behind called h.own es seen.log seen'.log h.parts adds.log;
         request = λ not_up.
             request_same a ended h.own (h.own ++ es) Going (Some (fail.Error error) ≡ None) h.came
             h.came p.put p.put (requests_same h.own es parts.apps parts.modules parts.are)
@@ -821,7 +750,7 @@ stops_batch inner inner' refuses allows method seen mark first oh a ended u stoo
 
     error_is : {x : Error} → fail.Error error ≡ fail.Error x → error ≡ x
     error_is is = cc
-stops_batch inner inner' refuses allows method seen mark first oh a ended u stood stand p tasks
+stops_batch inner inner' refuses allows method seen mark called oh a ended u stood stand p tasks
     fail.OutOfMemory seen' mark' so_inside h (es, adds, fed) =
     let parts = stop_parts oh stand tasks es fed in
     record {
@@ -833,11 +762,8 @@ stops_batch inner inner' refuses allows method seen mark first oh a ended u stoo
         came = h.came;
         queued = h.queued;
         holds = so_inside (inside p h.came h.queued) h.holds;
-        before = h.before;
         own = h.own ++ es;
-        parts = parts_behind h.before h.own es seen.log seen'.log h.parts adds.log;
-        began = h.began;
-        logged = logs_some allows h.own seen mark h.logged seen' es mark' adds;
+        parts = parts_behind called h.own es seen.log seen'.log h.parts adds.log;
         request = λ not_up.
             request_same a ended h.own (h.own ++ es) Going (Some fail.OutOfMemory ≡ None) h.came
             h.came p.put p.put (requests_same h.own es parts.apps parts.modules parts.are)
@@ -859,21 +785,24 @@ stops_batch inner inner' refuses allows method seen mark first oh a ended u stoo
 -- a batch passed, and the inner side refused it
 refused_open : (inner inner' : DownPast → Type 0)
     (refuses' : DownPast → List HttpTask → Error → Type 0)
-    (allows : Standing → LogEntry → Type 0) (method : List ℕ) (seen : Seen) (mark first : ℕ)
-    (oh a ended u u' stood stand : Bool) (p : DownPast) (tasks made : List HttpTask) (why : Fail)
+    (allows : Standing → LogEntry → Type 0) (method : List ℕ) (seen : Seen) (mark : ℕ)
+    (called : List LogEntry) (oh a ended u u' stood stand : Bool) (p : DownPast)
+    (tasks made : List HttpTask) (why : Fail)
     (seen' : Seen)
-    (mark' : ℕ) (h : IsHooked inner allows method seen mark first oh a ended u false stood None p)
+    (mark' : ℕ)
+    (h : IsHooked inner method seen.downstream called seen.log oh a ended u false stood None p)
     → (u' ≡ false → u ≡ false)
     → list_any is_failure made ≡ list_any is_failure tasks
     → Outcome allows (λ es out. BatchPasses oh stand tasks es out) (BatchStops oh stand tasks)
     (Refuses oh) (Ok made) seen mark seen' mark'
     → BatchRefused inner' refuses' (inside p h.came h.queued) made why
-    → BatchRefused (IsHooked inner' allows method seen' mark' first oh a ended u' true
+    → BatchRefused (IsHooked inner' method seen'.downstream called seen'.log oh a ended u' true
     (stood && stand) None)
     (λ past left e.
-    RefusesOver inner' refuses' oh (stood && stand) stand true None first seen'.log past left e)
+    RefusesOver inner' refuses' oh (stood && stand) stand true None called seen'.log past left e)
     p tasks why
-refused_open inner inner' refuses' allows method seen mark first oh a ended u u' stood stand p tasks
+refused_open inner inner' refuses' allows method seen mark called oh a ended u u' stood stand p
+    tasks
     made why seen' mark' h plain same (es, adds, b) g =
     let parts = batch_parts oh stand tasks es made b in
     let t = makes_front oh stood stand h.own es (TakesOn None false) (TakesOn None true) p.batched
@@ -891,11 +820,8 @@ refused_open inner inner' refuses' allows method seen mark first oh a ended u u'
         came = g.past.put;
         queued = g.past.batched;
         holds = g.stands;
-        before = h.before;
         own = h.own ++ es;
-        parts = parts_behind h.before h.own es seen.log seen'.log h.parts adds.log;
-        began = h.began;
-        logged = logs_on allows h.own seen mark h.logged seen' es mark' None adds;
+        parts = parts_behind called h.own es seen.log seen'.log h.parts adds.log;
         request = λ not_up.
             request_same a ended h.own (h.own ++ es) Going Going h.came g.past.put p.put p.put
             (requests_same h.own es b.by_app b.by_modules parts) (λ so. so) g.is_put refl
@@ -909,9 +835,9 @@ refused_open inner inner' refuses' allows method seen mark first oh a ended u u'
       is_batched = refl;
       is_closing = g.is_closing;
       refused = λ e no_failure is.
-          by_inner g.past.put g.past.batched g.left g.stands h.before (h.own ++ es)
-          (parts_behind h.before h.own es seen.log seen'.log h.parts adds.log) h.began made_by
-          t.made (g.refused e (same ∙ no_failure) is);
+          by_inner g.past.put g.past.batched g.left g.stands (h.own ++ es)
+          (parts_behind called h.own es seen.log seen'.log h.parts adds.log) made_by t.made
+          (g.refused e (same ∙ no_failure) is);
     }
   where
     not_taken : true ≡ false → ⊥
@@ -919,71 +845,76 @@ refused_open inner inner' refuses' allows method seen mark first oh a ended u u'
 
 -- a side that takes on, by its flags
 pub batch_goes : (inner inner' : DownPast → Type 0) (blames' : DownPast → Error → Type 0)
-    (allows : Standing → LogEntry → Type 0) (method : List ℕ) (seen : Seen) (mark first : ℕ)
-    (oh a ended ended' u u' rf stood stand : Bool) (st : Option Fail) (has : Bool) (p : DownPast)
+    (allows : Standing → LogEntry → Type 0) (method : List ℕ) (seen : Seen) (mark : ℕ)
+    (called : List LogEntry) (oh a ended ended' u u' rf stood stand : Bool) (st : Option Fail)
+    (has : Bool) (p : DownPast)
     (tasks made : List HttpTask) (seen' : Seen) (mark' : ℕ)
     → refused_at_once st rf has tasks ≡ None
-    → (h : IsHooked inner allows method seen mark first oh a ended u rf stood st p)
+    → (h : IsHooked inner method seen.downstream called seen.log oh a ended u rf stood st p)
     → (u' ≡ false → (u ≡ false) × (ended' ≡ ended))
     → Outcome allows (λ es out. BatchPasses oh stand tasks es out) (BatchStops oh stand tasks)
     (Refuses oh) (Ok made) seen mark seen' mark'
     → DownGoes inner' blames' h.came (h.queued ++ made) p.closing None
-    → DownGoes (IsHooked inner' allows method seen' mark' first oh a ended' u' rf (stood && stand)
+    → DownGoes
+    (IsHooked inner' method seen'.downstream called seen'.log oh a ended' u' rf (stood && stand)
     st) (λ past e. BlamesOver inner' blames' st past e) p.put (p.batched ++ tasks) p.closing None
-batch_goes inner inner' blames' allows method seen mark first oh a ended ended' u u' rf stood stand
+batch_goes inner inner' blames' allows method seen mark called oh a ended ended' u u' rf stood stand
     (Some why) has p tasks made seen' mark' on h = some_none _ on
-batch_goes inner inner' blames' allows method seen mark first oh a ended ended' u u' true stood
+batch_goes inner inner' blames' allows method seen mark called oh a ended ended' u u' true stood
     stand None has p tasks made seen' mark' on h = some_none _ on
-batch_goes inner inner' blames' allows method seen mark first oh a ended ended' u u' false stood
+batch_goes inner inner' blames' allows method seen mark called oh a ended ended' u u' false stood
     stand None has p tasks made seen' mark' on h =
-    batch_open inner inner' blames' allows method seen mark first oh a ended ended' u u' stood stand
+    batch_open inner inner' blames' allows method seen mark called oh a ended ended' u u' stood
+    stand
     p tasks made seen' mark' h
 
 pub batch_stops : (inner inner' : DownPast → Type 0)
     (refuses : DownPast → List HttpTask → Error → Type 0)
-    (allows : Standing → LogEntry → Type 0) (method : List ℕ) (seen : Seen) (mark first : ℕ)
-    (oh a ended u rf stood stand : Bool) (st : Option Fail) (has : Bool) (p : DownPast)
+    (allows : Standing → LogEntry → Type 0) (method : List ℕ) (seen : Seen) (mark : ℕ)
+    (called : List LogEntry) (oh a ended u rf stood stand : Bool) (st : Option Fail) (has : Bool)
+    (p : DownPast)
     (tasks : List HttpTask) (why : Fail) (seen' : Seen) (mark' : ℕ)
     → refused_at_once st rf has tasks ≡ None → ((q : DownPast) → inner q → inner' q)
-    → IsHooked inner allows method seen mark first oh a ended u rf stood st p
+    → IsHooked inner method seen.downstream called seen.log oh a ended u rf stood st p
     → Outcome {Y = List HttpTask} allows (λ es out. BatchPasses oh stand tasks es out)
     (BatchStops oh stand tasks) (Refuses oh) (Err why) seen mark seen' mark'
-    → BatchRefused (IsHooked inner' allows method seen' mark' first oh a ended u rf stood
+    → BatchRefused (IsHooked inner' method seen'.downstream called seen'.log oh a ended u rf stood
     (Some why)) (λ past left e.
-    RefusesOver inner' refuses oh stood stand rf (Some why) first seen'.log past left e)
+    RefusesOver inner' refuses oh stood stand rf (Some why) called seen'.log past left e)
     p tasks why
-batch_stops inner inner' refuses allows method seen mark first oh a ended u rf stood stand
+batch_stops inner inner' refuses allows method seen mark called oh a ended u rf stood stand
     (Some before) has p tasks why seen' mark' on so_inside h = some_none _ on
-batch_stops inner inner' refuses allows method seen mark first oh a ended u true stood stand None
+batch_stops inner inner' refuses allows method seen mark called oh a ended u true stood stand None
     has p tasks why seen' mark' on so_inside h = some_none _ on
-batch_stops inner inner' refuses allows method seen mark first oh a ended u false stood stand None
+batch_stops inner inner' refuses allows method seen mark called oh a ended u false stood stand None
     has p tasks why seen' mark' on so_inside h =
-    stops_batch inner inner' refuses allows method seen mark first oh a ended u stood stand p tasks
+    stops_batch inner inner' refuses allows method seen mark called oh a ended u stood stand p tasks
     why seen' mark' so_inside h
 
 pub batch_refused : (inner inner' : DownPast → Type 0)
     (refuses' : DownPast → List HttpTask → Error → Type 0)
-    (allows : Standing → LogEntry → Type 0) (method : List ℕ) (seen : Seen) (mark first : ℕ)
-    (oh a ended u u' rf stood stand : Bool) (st : Option Fail) (has : Bool) (p : DownPast)
+    (allows : Standing → LogEntry → Type 0) (method : List ℕ) (seen : Seen) (mark : ℕ)
+    (called : List LogEntry) (oh a ended u u' rf stood stand : Bool) (st : Option Fail)
+    (has : Bool) (p : DownPast)
     (tasks made : List HttpTask) (why : Fail) (seen' : Seen) (mark' : ℕ)
     → refused_at_once st rf has tasks ≡ None
-    → (h : IsHooked inner allows method seen mark first oh a ended u rf stood st p)
+    → (h : IsHooked inner method seen.downstream called seen.log oh a ended u rf stood st p)
     → (u' ≡ false → u ≡ false) → list_any is_failure made ≡ list_any is_failure tasks
     → Outcome allows (λ es out. BatchPasses oh stand tasks es out) (BatchStops oh stand tasks)
     (Refuses oh) (Ok made) seen mark seen' mark'
     → BatchRefused inner' refuses' (inside p h.came h.queued) made why
-    → BatchRefused (IsHooked inner' allows method seen' mark' first oh a ended u' true
+    → BatchRefused (IsHooked inner' method seen'.downstream called seen'.log oh a ended u' true
     (stood && stand) st)
     (λ past left e.
-    RefusesOver inner' refuses' oh (stood && stand) stand true st first seen'.log past left e)
+    RefusesOver inner' refuses' oh (stood && stand) stand true st called seen'.log past left e)
     p tasks why
-batch_refused inner inner' refuses' allows method seen mark first oh a ended u u' rf stood stand
+batch_refused inner inner' refuses' allows method seen mark called oh a ended u u' rf stood stand
     (Some before) has p tasks made why seen' mark' on h = some_none _ on
-batch_refused inner inner' refuses' allows method seen mark first oh a ended u u' true stood stand
+batch_refused inner inner' refuses' allows method seen mark called oh a ended u u' true stood stand
     None has p tasks made why seen' mark' on h = some_none _ on
-batch_refused inner inner' refuses' allows method seen mark first oh a ended u u' false stood stand
+batch_refused inner inner' refuses' allows method seen mark called oh a ended u u' false stood stand
     None has p tasks made why seen' mark' on h =
-    refused_open inner inner' refuses' allows method seen mark first oh a ended u u' stood stand p
+    refused_open inner inner' refuses' allows method seen mark called oh a ended u u' stood stand p
     tasks made why seen' mark' h
 
 -- without a failure the error of a batch that is refused at once is that of the stop
@@ -1041,14 +972,14 @@ true_is b up = up
 
 -- a batch is refused before any filter is called
 pub at_once : (inner : DownPast → Type 0) (refuses : DownPast → List HttpTask → Error → Type 0)
-    (allows : Standing → LogEntry → Type 0) (method : List ℕ) (seen : Seen) (mark first : ℕ)
+    (method : List ℕ) (c : HttpSession) (called log : List LogEntry)
     (oh a ended u rf stood stand : Bool) (st : Option Fail) (has : Bool) (p : DownPast)
     (tasks : List HttpTask) (why : Fail) → refused_at_once st rf has tasks ≡ Some why
-    → IsHooked inner allows method seen mark first oh a ended u rf stood st p
-    → BatchRefused (IsHooked inner allows method seen mark first oh a ended u rf stood st)
+    → IsHooked inner method c called log oh a ended u rf stood st p
+    → BatchRefused (IsHooked inner method c called log oh a ended u rf stood st)
     (λ past left e.
-    RefusesOver inner refuses oh stood stand rf st first seen.log past left e) p tasks why
-at_once inner refuses allows method seen mark first oh a ended u rf stood stand st has p tasks why
+    RefusesOver inner refuses oh stood stand rf st called log past left e) p tasks why
+at_once inner refuses method c called log oh a ended u rf stood stand st has p tasks why
     is h =
     record {
       filtered = [];
@@ -1080,27 +1011,19 @@ pub none_error : {A : Type 0} (e : Error) → None ≡ Some (fail.Error e) → A
 none_error e is = cc
 
 -- before the first piece nothing passed
-abbrev pub begins : (holds : DownPast → Type 0) (allows : Standing → LogEntry → Type 0)
-    (method : List ℕ) (seen : Seen) (mark first : ℕ) (oh ended u : Bool) (p : DownPast)
-    → first ≡ length seen.log → IsSome (head_of seen.downstream.reading) → p.put ≡ []
+abbrev pub begins : (holds : DownPast → Type 0) (method : List ℕ) (c : HttpSession)
+    (called log : List LogEntry) (oh ended u : Bool) (p : DownPast)
+    → called ≡ log → IsSome (head_of c.reading) → p.put ≡ []
     → p.batched ≡ [] → oh ≡ is_head_request method → holds p
-    → IsHooked holds allows method seen mark first oh ended ended u false true None p
-begins holds allows method seen mark first oh ended u p len head none none' own h = record {
+    → IsHooked holds method c called log oh ended ended u false true None p
+begins holds method c called log oh ended u p stood head none none' own h = record {
   came = [];
   queued = [];
   holds =
       subst (λ (l : List HttpTask). holds (record p { put = []; batched = l })) none'
       (subst (λ (l : List HttpTask). holds (record p { put = l })) none h);
-  before = seen.log;
   own = [];
-  parts = sym (append-nil seen.log);
-  began = sym len;
-  logged = record {
-    from = standing None false (moment seen mark);
-    to = standing None false (moment seen mark);
-    walk = Views-same _;
-    at = λ so. refl;
-  };
+  parts = sym stood ∙ sym (append-nil called);
   request = λ plain. record {
     each = All-nil PieceCall;
     rest = [];

@@ -23,7 +23,7 @@ use Rattle.relay_sides.specs.declared.client_side.ClientSide.{ClientSide}
 use Rattle.relay_sides.proofs.LentLemmas.{state_lent}
 use Rattle.relay_filters.specs.Request.{Filtered, is_last, piece_of}
 use Rattle.relay_filters.specs.Hooked.{seen_by, state_of_side, state_over}
-use Rattle.relay_filters.specs.declared.unhooked.Shown.{Shown}
+use Rattle.relay_filters.specs.declared.rested.Shown.{Shown}
 use Rattle.relay_filters.proofs.LentSide.{Swapped}
 use Rattle.relay_filters.proofs.OutcomeLemmas.{call_client}
 

@@ -27,7 +27,8 @@ use Rattle.relay_filters.specs.Chain.{Refuses}
 use Rattle.relay_filters.specs.Request.{PassesRequest}
 use Rattle.relay_filters.specs.Response.{BatchStops, MakesOf, WasMade}
 use Rattle.relay_filters.specs.Segments.{InSegments}
-use Rattle.relay_filters.specs.declared.unhooked.Shown.{Shown}
+use Rattle.relay_filters.specs.declared.rested.Rested.{Rested}
+use Rattle.relay_filters.specs.declared.rested.Shown.{Shown}
 
 -- ---- the state
 
@@ -96,15 +97,54 @@ abbrev pub stood_head : Bool → HttpSession → Option RequestHead
 stood_head lost client =
     if lost || is_some (head_of client.reading) then Some (new_request [] []) else None
 
--- what no call of the side changes: its application, how many calls stood in the log before its
--- own, whether its request had ended before the first of them, and is a HEAD, and whether there is a
--- head
+-- what no call of the side changes: its application, whether its request had ended before its
+-- first call, and is a HEAD, and whether there is a head
 pub record Stays (A : Type 0) : Type 0 where
   pub app : A
-  pub first : ℕ
   pub at_first : Bool
   pub of_head : Bool
   pub head : Option RequestHead
+
+-- what no call of a side for that application changes
+abbrev pub stays_of : {A : Type 0} → A → Rested → Stays A
+stays_of app side = record {
+  app = app;
+  at_first = side.at_first;
+  of_head = side.of_head;
+  head = stood_head (is_lost side.stopped) side.inner.session;
+}
+
+-- calls were entered behind what stood in the log, each of them allowed, and lead from the session
+-- and the context's mark as they were to both as they are
+pub record WalksTo (allows : Standing → LogEntry → Type 0) (old : Seen) (mark : ℕ) (new : Seen)
+    (mark' : ℕ) : Type 0 where
+  pub es : List LogEntry
+  pub log : new.log ≡ old.log ++ es
+  pub walk : Walk allows (standing None false (moment old mark)) es
+      (standing None false (moment new mark'))
+
+-- the same, where memory was wanted in a call that was not entered: it may have left more
+pub record WalksOut (allows : Standing → LogEntry → Type 0) (old : Seen) (mark : ℕ) (new : Seen)
+    : Type 0 where
+  pub es : List LogEntry
+  pub to : Standing
+  pub log : new.log ≡ old.log ++ es
+  pub walk : Walk allows (standing None false (moment old mark)) es to
+
+-- how the log goes on, by whether memory was wanted in a call before, and is now: where it was, no
+-- call is entered any more
+abbrev pub Walks : (Standing → LogEntry → Type 0) → Bool → Bool → Seen → ℕ → Seen → ℕ → Type 0
+Walks allows false false old mark new mark' = WalksTo allows old mark new mark'
+Walks allows false true old mark new mark' = WalksOut allows old mark new
+Walks allows true false old mark new mark' = ⊥
+Walks allows true true old mark new mark' = new.log ≡ old.log
+
+-- what a call of the side leaves as it was, and how the log goes on
+pub record Lasts {A : Type 0} (allows : Standing → LogEntry → Type 0)
+    (old_stays new_stays : Stays A) (was_lost lost : Bool) (old : Seen) (mark : ℕ)
+    (new : Seen) (mark' : ℕ) : Type 0 where
+  pub stays : new_stays ≡ old_stays
+  pub walks : Walks allows was_lost lost old mark new mark'
 
 -- the past of the inner side over the client's session; where that is lost, over the one before
 abbrev pub PastOf : Bool → (HttpSession → DownPast → Type 0) → HttpSession → DownPast → Type 0
@@ -125,40 +165,27 @@ InnerPast stopped s link ahead side =
 abbrev pub inside : DownPast → List HttpTask → List HttpTask → DownPast
 inside p came queued = record p { put = came; batched = queued }
 
--- the calls of the side walk, each of them allowed by the application or by modules, up to the
--- session and the context's mark as they stand, where no call wanted memory
-pub record IsLogged (allows : Standing → LogEntry → Type 0) (own : List LogEntry) (seen : Seen)
-    (mark : ℕ) (stopped : Option Fail) : Type 0 where
-  pub from : Standing
-  pub to : Standing
-  pub walk : Walk allows from own to
-  pub at : (stopped ≡ Some fail.OutOfMemory → ⊥) → to ≡ standing None false (moment seen mark)
-
 -- the side takes on: it has not stopped, and its inner one has refused nothing
 abbrev pub TakesOn : Option Fail → Bool → Type 0
 TakesOn stopped refused = (stopped ≡ None) × (refused ≡ false)
 
--- what passed through a side whose calls stand in the log behind so many: what the inner side put
+-- what passed through a side whose calls stand in the log behind those: what the inner side put
 -- passed the filter of requests by these calls, what it was given is what the filters of responses
 -- made, and all else passed as it did inside. `stood` says that modules stood for each batch. Of
 -- the request of a client that was upgraded nothing is said
-pub record IsHooked (inner : DownPast → Type 0) (allows : Standing → LogEntry → Type 0)
-    (method : List ℕ) (seen : Seen) (mark first : ℕ)
-    (of_head at_first ended upgraded refused stood : Bool) (stopped : Option Fail) (p : DownPast)
-    : Type 0 where
+pub record IsHooked (inner : DownPast → Type 0) (method : List ℕ) (client : HttpSession)
+    (called log : List LogEntry) (of_head at_first ended upgraded refused stood : Bool)
+    (stopped : Option Fail) (p : DownPast) : Type 0 where
   pub came : List HttpTask
   pub queued : List HttpTask
   pub holds : inner (inside p came queued)
-  pub before : List LogEntry
   pub own : List LogEntry
-  pub parts : seen.log ≡ before ++ own
-  pub began : length before ≡ first
-  pub logged : IsLogged allows own seen mark stopped
+  pub parts : log ≡ called ++ own
   pub request : upgraded ≡ false
       → PassesRequest at_first ended (requests_in own) (stopped ≡ None) came p.put
   pub is_of_head : of_head ≡ is_head_request method
   pub response : MakesOf of_head stood own (TakesOn stopped refused) p.batched queued
-  pub head : stopped ≡ None → IsSome (head_of seen.downstream.reading)
+  pub head : stopped ≡ None → IsSome (head_of client.reading)
   -- the side stopped for what its last call answered or left
   pub told : (e : Error) → stopped ≡ Some (fail.Error e) → Refuses of_head e own
 
@@ -173,15 +200,14 @@ pub record IsQuiet (stopped : Option Fail) (told inner_told : Told) : Type 0 whe
       × (stops_for_error stopped ≡ false))
 
 -- the past of a side: what passed, what its errors say of those of its inner one, and its calls,
--- which stand in the log behind so many, in order
-pub record HookedPast (inner : DownPast → Type 0) (allows : Standing → LogEntry → Type 0)
-    (method : List ℕ) (seen : Seen) (mark first : ℕ)
-    (of_head at_first ended upgraded refused stood : Bool) (stopped : Option Fail)
-    (told inner_told : Told) (p : DownPast) : Type 0 where
-  pub passed : IsHooked inner allows method seen mark first of_head at_first ended upgraded refused
-      stood stopped p
+-- which stand in the log behind those, in order
+pub record HookedPast (inner : DownPast → Type 0) (method : List ℕ) (client : HttpSession)
+    (called log : List LogEntry) (of_head at_first ended upgraded refused stood : Bool)
+    (stopped : Option Fail) (told inner_told : Told) (p : DownPast) : Type 0 where
+  pub passed : IsHooked inner method client called log of_head at_first ended upgraded refused stood
+      stopped p
   pub quiet : IsQuiet stopped told inner_told
-  pub calls : InSegments of_head stopped (drop first seen.log)
+  pub calls : InSegments of_head stopped (drop (length called) log)
 
 -- what is put of a piece that was put again, by what came of it: what passed, or nothing
 abbrev pub put_by : Result Piece Fail → List HttpTask
@@ -197,20 +223,20 @@ BlamesOver inner blames stopped p e =
     ⊎ (stopped ≡ Some (fail.Error e))
 
 -- why the side refuses tasks: a filter, or the check behind one, stopped them, for what the last
--- call of the log answered or left; its inner one refuses what the filters made of them, behind
--- what they made, by the calls of the side, of those before; or the side had stopped for that error
--- before. The side's calls stand in the log behind so many, and `stand` says that modules stand
+-- call of the log answered or left; its inner one refuses what the filters made of them by the last
+-- calls of the log, behind what they made, by the calls of the side, of those before; or the side
+-- had stopped for that error before. `stand` says that modules stand
 pub data RefusesOver (inner : DownPast → Type 0)
     (refuses : DownPast → List HttpTask → Error → Type 0) (of_head stood stand refused : Bool)
-    (stopped : Option Fail) (first : ℕ) (log : List LogEntry) (p : DownPast) (left : List HttpTask)
+    (stopped : Option Fail) (called log : List LogEntry) (p : DownPast) (left : List HttpTask)
     (e : Error) : Type 0 where
   by_filter : (before own : List LogEntry) → log ≡ before ++ own → BatchStops of_head stand left own
       → Refuses of_head e own → stopped ≡ Some (fail.Error e)
-      → RefusesOver inner refuses of_head stood stand refused stopped first log p left e
+      → RefusesOver inner refuses of_head stood stand refused stopped called log p left e
   by_inner : (came queued made : List HttpTask) → inner (inside p came queued)
-      → (before own : List LogEntry) → log ≡ before ++ own → length before ≡ first
+      → (own : List LogEntry) → log ≡ called ++ own
       → MakesOf of_head stood own (TakesOn stopped refused) p.batched queued
-      → WasMade of_head stand left made → refuses (inside p came queued) made e
-      → RefusesOver inner refuses of_head stood stand refused stopped first log p left e
+      → WasMade of_head stand own left made → refuses (inside p came queued) made e
+      → RefusesOver inner refuses of_head stood stand refused stopped called log p left e
   had_stopped : stopped ≡ Some (fail.Error e)
-      → RefusesOver inner refuses of_head stood stand refused stopped first log p left e
+      → RefusesOver inner refuses of_head stood stand refused stopped called log p left e

@@ -81,11 +81,17 @@ pub record BatchPasses (of_head stand : Bool) (tasks : List HttpTask) (es : List
   pub pass : AllPass (TaskChain of_head) by_app tasks mid
   pub made_so : AllPass (PassesModules stand) by_modules mid made
 
--- what is left of a batch that passed its filters, as it came and as they made it
-pub record WasMade (of_head stand : Bool) (left made : List HttpTask) : Type 0 where
+-- what is left of a batch that passed its filters by these calls, as it came and as they made it:
+-- of the calls of both stages it was the last that made it
+pub record WasMade (of_head stand : Bool) (es : List LogEntry) (left made : List HttpTask)
+    : Type 0 where
   pub mid : List HttpTask
+  pub apps : List LogEntry
   pub by_app : List LogEntry
+  pub are_apps : responses_in es ≡ apps ++ by_app
+  pub modules : List LogEntry
   pub by_modules : List LogEntry
+  pub are_modules : modules_in es ≡ modules ++ by_modules
   pub pass : AllPass (TaskChain of_head) by_app left mid
   pub made_so : AllPass (PassesModules stand) by_modules mid made
 

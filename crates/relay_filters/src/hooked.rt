@@ -1,6 +1,6 @@
 //! The client's side behind the filters of an application: the pieces of the request that the inner
 //! side gives pass them, and so do the tasks of the response that it takes.
-ghost use Rattle.std.specs.Prelude.{◌≡◌, ◌||◌, ◌⊎◌, ◌^◌, ◌-◌, [], drop, length, min, is_some, true, false, None, Some, IsSome, IfErr, IfOk, option_map, unwrap_or};
+ghost use Rattle.std.specs.Prelude.{◌≡◌, ◌⊎◌, ◌^◌, ◌-◌, [], drop, length, min, is_some, true, false, None, Some, IsSome, IfErr, IfOk, option_map, unwrap_or};
 ghost use Rattle.std.specs.List.{list_any};
 ghost use Rattle.relay_tasks.specs.Task.{is_end};
 ghost use Rattle.relay_tasks.specs.declared.error.Fail.TheVariants as fail;
@@ -13,11 +13,11 @@ ghost use Rattle.relay_calls.specs.Log.{IsAllowed};
 ghost use Rattle.relay_filters.specs.Response.{SomeAllow};
 ghost use Rattle.relay_filters.specs.Delay.{delays_of};
 ghost use Rattle.relay_filters.specs.Request.{Filters, is_last};
-ghost use Rattle.relay_filters.specs.Hooked.{BlamesOver, HookedPast, InnerPast, PastBy, RefusesOver, Stays, failure_in_front, is_lost, put_by, refused_at_once, seen_by, state_of_side, state_over, stood_head};
+ghost use Rattle.relay_filters.specs.Hooked.{BlamesOver, HookedPast, InnerPast, Lasts, PastBy, RefusesOver, failure_in_front, is_lost, put_by, refused_at_once, seen_by, state_of_side, state_over, stays_of};
 
 use crate::lent::{pass_piece, pass_tasks};
 use crate::request::either;
-use crate::unhooked::{Shown, Unhooked};
+use crate::rested::{Rested, still_stood};
 use relay_core::{Down, Piece, Told, UpKind};
 use relay_hooks::{ProxyHttp, Session};
 use relay_links::Put;
@@ -42,11 +42,14 @@ use relay_tasks::{Error, ErrorSource, Fail, HttpTask, Result, TaskList, Took};
 /// Where memory was wanted in a filter, which may leave anything in the session that it was lent,
 /// nothing is written either.
 ///
-/// The application is borrowed for a turn: between turns the rest of the side is held alone
-/// (`suspend`, `resume`).
+/// The application, the session and the context are the side's for a turn: between turns the rest
+/// of it is held alone (`suspend`, `resume`).
 pub struct Hooked<'a, SV: ProxyHttp> {
     app: &'a SV,
-    side: Unhooked<SV::Modules, SV::CTX>,
+    // What hooks are shown: between their calls a stand-in is in the place of the client's session.
+    session: Session<SV::Modules>,
+    ctx: SV::CTX,
+    side: Rested,
 }
 
 /// The error of a failure in front.
@@ -90,18 +93,16 @@ impl<'a, SV: ProxyHttp> Hooked<'a, SV> {
             → IsSome (head_of inner.session.reading) → p.put ≡ [] → p.batched ≡ []
             → of_head ≡ is_head_request s.head.method
             → PastBy s (F.state client) (F.ahead client) inner inner.session p
+            → s.called ≡ session.seen.log
             → HookedPast (InnerPast result.side.stopped s (F.state client) (F.ahead client)
-            result.side.inner)
-            (IsAllowed (SV.allows result.app.now) (SomeAllow SV.Modules.allows))
-            s.head.method (seen_by result.side.session.seen result.side.inner.session)
-            (SV.mark_of result.app.now result.side.ctx) result.side.first result.side.of_head
-            result.side.at_first result.side.ended false result.side.refused
-            result.side.stood result.side.stopped result.side.told result.side.inner.told p }
+            result.side.inner) s.head.method result.side.inner.session s.called
+            result.session.seen.log result.side.of_head result.side.at_first result.side.ended
+            false result.side.refused result.side.stood result.side.stopped result.side.told
+            result.side.inner.told p }
         ensures app { result.app ≡ app.entry }
-        ensures session { result.side.session ≡ session }
-        ensures ctx { result.side.ctx ≡ ctx }
+        ensures session { result.session ≡ session }
+        ensures ctx { result.ctx ≡ ctx }
         // Nothing has stopped it, and it has told what its inner side has.
-        ensures first { result.side.first ≡ length session.seen.log }
         ensures at_first { result.side.at_first ≡ ended }
         ensures ended { result.side.ended ≡ ended }
         ensures stopped { result.side.stopped ≡ None }
@@ -109,27 +110,15 @@ impl<'a, SV: ProxyHttp> Hooked<'a, SV> {
         ensures counted { result.side.counted ≡ length session.seen.log }
         ensures stood { result.side.stood ≡ true }
     {
-        let first = session.phase_log().len();
+        let counted = session.phase_log().len();
         let told = Down::<F>::told(&inner);
-        let side = Unhooked {
+        let side = Rested::new(inner, told, of_head, counted, ended);
+        Hooked {
+            app,
             session,
             ctx,
-            inner,
-            told,
-            of_head,
-            first,
-            counted: first,
-            at_first: ended,
-            ended,
-            stopped: None,
-            refused: false,
-            stood: true,
-            was: Shown {
-                body_done: false,
-                pending: false,
-            },
-        };
-        Hooked { app, side }
+            side,
+        }
     }
 
     /// The side of an attempt that puts again what was read of the body, as `new`, and what passes
@@ -140,8 +129,8 @@ impl<'a, SV: ProxyHttp> Hooked<'a, SV> {
     /// What passed is as inside, where that piece was put and nothing was taken yet.
     pub fn begin_again<F: Front>(
         app: &'a SV,
-        session: Session<SV::Modules>,
-        ctx: SV::CTX,
+        mut session: Session<SV::Modules>,
+        mut ctx: SV::CTX,
         inner: ClientSide,
         first: Piece,
         of_head: bool,
@@ -152,14 +141,13 @@ impl<'a, SV: ProxyHttp> Hooked<'a, SV> {
             → (is_last first ≡ true → list_any is_end (put_of false first) ≡ true)
             → of_head ≡ is_head_request s.head.method
             → PastBy s (F.state client) (F.ahead client) inner inner.session p
+            → s.called ≡ session.seen.log
             → HookedPast (InnerPast result.0.side.stopped s (F.state client) (F.ahead client)
-            result.0.side.inner)
-            (IsAllowed (SV.allows result.0.app.now) (SomeAllow SV.Modules.allows))
-            s.head.method (seen_by result.0.side.session.seen result.0.side.inner.session)
-            (SV.mark_of result.0.app.now result.0.side.ctx) result.0.side.first
-            result.0.side.of_head result.0.side.at_first result.0.side.ended false
-            result.0.side.refused result.0.side.stood result.0.side.stopped result.0.side.told
-            result.0.side.inner.told (record p { put = put_by result.1 }) }
+            result.0.side.inner) s.head.method result.0.side.inner.session s.called
+            result.0.session.seen.log result.0.side.of_head result.0.side.at_first
+            result.0.side.ended false result.0.side.refused result.0.side.stood
+            result.0.side.stopped result.0.side.told result.0.side.inner.told
+            (record p { put = put_by result.1 }) }
         // The request has ended where it ends with what passes, and the client's body where it had.
         ensures ended { IfOk result.1 (λ made. result.0.side.ended ≡ made.upstream_end) }
         ensures end { IfOk result.1 (λ made. is_last first ≡ true → made.upstream_end ≡ true) }
@@ -171,82 +159,79 @@ impl<'a, SV: ProxyHttp> Hooked<'a, SV> {
         // where memory was wanted it has no entry. Of the inner side hooks change the session alone.
         ensures filters { Filters (SV.allows app.now) false first result.1
             (seen_by session.seen inner.session) (SV.mark_of app.now ctx)
-            (seen_by result.0.side.session.seen result.0.side.inner.session)
-            (SV.mark_of app.now result.0.side.ctx) }
+            (seen_by result.0.session.seen result.0.side.inner.session)
+            (SV.mark_of app.now result.0.ctx) }
         ensures rest { result.0.side.inner
             ≡ record inner { session = result.0.side.inner.session } }
-        ensures first { result.0.side.first ≡ length session.seen.log }
         ensures at_first { result.0.side.at_first ≡ false }
         ensures told { IfOk result.1 (λ made. result.0.side.told ≡ inner.told) }
         ensures app { result.0.app ≡ app.entry }
         ensures counted { result.0.side.counted ≡ length session.seen.log }
         ensures stood { result.0.side.stood ≡ true }
     {
-        let at = session.phase_log().len();
+        let counted = session.phase_log().len();
         let told = Down::<F>::told(&inner);
-        let mut side = Unhooked {
-            session,
-            ctx,
-            inner,
-            told,
-            of_head,
-            first: at,
-            counted: at,
-            at_first: false,
-            ended: false,
-            stopped: None,
-            refused: false,
-            stood: true,
-            was: Shown {
-                body_done: false,
-                pending: false,
-            },
-        };
+        let mut side = Rested::new(inner, told, of_head, counted, false);
         let was = side.shows::<F>();
-        match pass_piece(
-            app,
-            &mut side.session,
-            &mut side.ctx,
-            &mut side.inner,
-            false,
-            first,
-        ) {
+        let passed = pass_piece(app, &mut session, &mut ctx, &mut side.inner, false, first);
+        match passed {
             Ok(made) => {
                 side.ended = made.upstream_end;
-                (Hooked { app, side }, Ok(made))
+                let hooked = Hooked {
+                    app,
+                    session,
+                    ctx,
+                    side,
+                };
+                (hooked, Ok(made))
             }
             Err(why) => {
-                side.stopped = Some(why);
-                side.was = was;
-                side.told = side.told.failed(why);
-                (Hooked { app, side }, Err(why))
+                side.stop(why, was);
+                let hooked = Hooked {
+                    app,
+                    session,
+                    ctx,
+                    side,
+                };
+                (hooked, Err(why))
             }
         }
     }
 
-    /// All of the side but the application, to be held while no turn is taken.
-    pub fn suspend(self) -> Unhooked<SV::Modules, SV::CTX>
-        ensures { result ≡ self.entry.side }
+    /// All of the side but the application, which is held while no turn is taken, and the session
+    /// and the context.
+    pub fn suspend(self) -> (Rested, Session<SV::Modules>, SV::CTX)
+        ensures side { result.0 ≡ self.entry.side }
+        ensures session { result.1 ≡ self.entry.session }
+        ensures ctx { result.2 ≡ self.entry.ctx }
     {
-        let Hooked { app: _, side } = self;
-        side
+        let Hooked {
+            app: _,
+            session,
+            ctx,
+            side,
+        } = self;
+        (side, session, ctx)
     }
 
-    /// The side that was suspended, for that application again.
-    pub fn resume(app: &'a SV, side: Unhooked<SV::Modules, SV::CTX>) -> Hooked<'a, SV>
+    /// The side that was suspended, for that application again, with that session and that context.
+    pub fn resume(
+        app: &'a SV,
+        session: Session<SV::Modules>,
+        ctx: SV::CTX,
+        side: Rested,
+    ) -> Hooked<'a, SV>
         ensures side { result.side ≡ side }
+        ensures session { result.session ≡ session }
+        ensures ctx { result.ctx ≡ ctx }
         ensures app { result.app ≡ app.entry }
     {
-        Hooked { app, side }
-    }
-
-    /// The inner side, the session and the context alone.
-    pub fn into_parts(self) -> (ClientSide, Session<SV::Modules>, SV::CTX)
-        ensures inner { result.0 ≡ self.entry.side.inner }
-        ensures session { result.1 ≡ self.entry.side.session }
-        ensures ctx { result.2 ≡ self.entry.side.ctx }
-    {
-        self.suspend().into_parts()
+        Hooked {
+            app,
+            session,
+            ctx,
+            side,
+        }
     }
 
     /// The inner side, which has the client's session.
@@ -258,21 +243,21 @@ impl<'a, SV: ProxyHttp> Hooked<'a, SV> {
 
     /// The session whose log has the calls. A stand-in is in the place of the client's session.
     pub fn session(&self) -> &Session<SV::Modules>
-        ensures { result.now ≡ self.now.side.session }
+        ensures { result.now ≡ self.now.session }
     {
-        self.side.session()
+        &self.session
     }
 
-    /// As `Unhooked::take_delay`.
+    /// As `Rested::take_delay`.
     pub fn take_delay(&mut self) -> u64
         ensures sum { result ≡ min
-            (delays_of (drop self.old.side.counted self.old.side.session.seen.log)) (2 ^ 64 - 1) }
+            (delays_of (drop self.old.side.counted self.old.session.seen.log)) (2 ^ 64 - 1) }
         ensures counted { self.new ≡ record self.old {
           side =
-              record self.old.side { counted = length self.old.side.session.seen.log };
+              record self.old.side { counted = length self.old.session.seen.log };
         } }
     {
-        self.side.take_delay()
+        self.side.take_delay(self.session.phase_log())
     }
 
     /// Whether modules stood for each batch that passed its filters so far.
@@ -301,14 +286,13 @@ impl<'a, SV: ProxyHttp> Hooked<'a, SV> {
 
 impl<'a, SV: ProxyHttp, F: Front> Down<F> for Hooked<'a, SV> {
     ghost state = { λ f. state_over (state_of_side f.side.inner) f.side.ended f.side.stopped
-        f.side.was f.side.told f.side.session.seen.log };
+        f.side.was f.side.told f.session.seen.log };
 
     ghost past = { λ f client s p. HookedPast
-        (InnerPast f.side.stopped s (F.state client) (F.ahead client) f.side.inner)
-        (IsAllowed (SV.allows f.app.now) (SomeAllow SV.Modules.allows)) s.head.method
-        (seen_by f.side.session.seen f.side.inner.session) (SV.mark_of f.app.now f.side.ctx)
-        f.side.first f.side.of_head f.side.at_first f.side.ended false f.side.refused f.side.stood
-        f.side.stopped f.side.told f.side.inner.told p };
+        (InnerPast f.side.stopped s (F.state client) (F.ahead client) f.side.inner) s.head.method
+        f.side.inner.session s.called f.session.seen.log f.side.of_head f.side.at_first
+        f.side.ended false f.side.refused f.side.stood f.side.stopped f.side.told
+        f.side.inner.told p };
 
     ghost blames = { λ f client s p e. BlamesOver
         (InnerPast f.side.stopped s (F.state client) (F.ahead client) f.side.inner)
@@ -317,8 +301,8 @@ impl<'a, SV: ProxyHttp, F: Front> Down<F> for Hooked<'a, SV> {
     ghost refuses = { λ f client s p left e. RefusesOver
         (InnerPast f.side.stopped s (F.state client) (F.ahead client) f.side.inner)
         (λ q. ClientRefuses s q (F.state client) f.side.inner.told) f.side.of_head f.side.stood
-        (is_some f.side.session.modules) f.side.refused f.side.stopped f.side.first
-        f.side.session.seen.log p left e };
+        (is_some f.session.modules) f.side.refused f.side.stopped s.called f.session.seen.log p
+        left e };
 
     ghost cannot_end = { λ f client s p e. BlamesOver
         (InnerPast f.side.stopped s (F.state client) (F.ahead client) f.side.inner)
@@ -329,16 +313,12 @@ impl<'a, SV: ProxyHttp, F: Front> Down<F> for Hooked<'a, SV> {
 
     ghost start = { F.start };
 
-    // Hooks may change the head, and not that there is one.
-    ghost Kept = { Stays SV };
-
-    ghost kept = { λ f. record {
-      app = f.app.now;
-      first = f.side.first;
-      at_first = f.side.at_first;
-      of_head = f.side.of_head;
-      head = stood_head (is_lost f.side.stopped) f.side.inner.session;
-    } };
+    ghost lasts = { λ old new. Lasts
+        (IsAllowed (SV.allows old.app.now) (SomeAllow SV.Modules.allows))
+        (stays_of old.app.now old.side) (stays_of new.app.now new.side)
+        (is_lost old.side.stopped) (is_lost new.side.stopped)
+        (seen_by old.session.seen old.side.inner.session) (SV.mark_of old.app.now old.ctx)
+        (seen_by new.session.seen new.side.inner.session) (SV.mark_of new.app.now new.ctx) };
 
     fn may_read(&self) -> bool {
         !(Down::<F>::body_done(self) && self.side.inner.is_answered())
@@ -371,8 +351,8 @@ impl<'a, SV: ProxyHttp, F: Front> Down<F> for Hooked<'a, SV> {
                         let ended = self.side.ended;
                         match pass_piece(
                             self.app,
-                            &mut self.side.session,
-                            &mut self.side.ctx,
+                            &mut self.session,
+                            &mut self.ctx,
                             &mut self.side.inner,
                             ended,
                             piece,
@@ -382,9 +362,7 @@ impl<'a, SV: ProxyHttp, F: Front> Down<F> for Hooked<'a, SV> {
                                 Took::Item(made)
                             }
                             Err(why) => {
-                                self.side.stopped = Some(why);
-                                self.side.was = was;
-                                self.side.told = self.side.told.failed(why);
+                                self.side.stop(why, was);
                                 Took::Failed(why)
                             }
                         }
@@ -415,14 +393,14 @@ impl<'a, SV: ProxyHttp, F: Front> Down<F> for Hooked<'a, SV> {
                 let of_head = self.side.of_head;
                 match pass_tasks(
                     self.app,
-                    &mut self.side.session,
-                    &mut self.side.ctx,
+                    &mut self.session,
+                    &mut self.ctx,
                     &mut self.side.inner,
                     of_head,
                     tasks,
                 ) {
                     Ok(made) => {
-                        self.side.stood = self.side.still_stood();
+                        self.side.stood = still_stood(self.side.stood, &self.session);
                         match Down::<F>::take_batch(&mut self.side.inner, made, kind) {
                             Ok(done) => Ok(done),
                             Err(why) => {
@@ -433,9 +411,7 @@ impl<'a, SV: ProxyHttp, F: Front> Down<F> for Hooked<'a, SV> {
                         }
                     }
                     Err(why) => {
-                        self.side.stopped = Some(why);
-                        self.side.was = was;
-                        self.side.told = self.side.told.failed(why);
+                        self.side.stop(why, was);
                         Err(why)
                     }
                 }

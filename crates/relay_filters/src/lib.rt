@@ -6,7 +6,7 @@ mod hooked;
 mod lent;
 mod request;
 mod response;
-mod unhooked;
+mod rested;
 
 pub use hooked::Hooked;
-pub use unhooked::Unhooked;
+pub use rested::Rested;

@@ -1,15 +1,17 @@
 -- A piece was filtered or refused, by hooks that were lent the client's session; any other answer
 -- of the inner side calls no filter.
-use Rattle.std.proofs.Common.{[], IsSome, Some, append-nil, ap, inr, refl, subst, sym, ◌∙◌}
+use Rattle.std.proofs.Common.{IsSome, Some, append-nil, ap, inr, refl, subst, sym, ◌∙◌}
 use Rattle.relay_core.specs.Down.{DownState}
+use Rattle.relay_core.specs.Told.{failed}
 use Rattle.relay_session.specs.Reading.{head_of}
 use Rattle.relay_session.specs.declared.session.HttpSession.{HttpSession}
-use Rattle.relay_filters.specs.Hooked.{seen_by}
+use Rattle.relay_filters.specs.Hooked.{is_lost, seen_by}
 use Rattle.relay_filters.proofs.LentSide.{client_goes, lent_reads, lent_stops, not_lost, past_of}
 use Rattle.relay_filters.proofs.QuietLemmas.{past_goes, quiet_alone, quiet_by, quiet_failed, quiet_paused, quiet_stops, told_given}
 use Rattle.relay_filters.proofs.SegmentLemmas.{segments_piece, segments_refused}
 use Rattle.relay_filters.proofs.SideLemmas.{fail_is}
 use Rattle.relay_filters.proofs.StateLemmas.{ended_behind, gives_piece}
+use Rattle.relay_filters.proofs.WalkLemmas.{lasts_piece, lasts_refused, lasts_same, lasts_side}
 use Rattle.relay_filters.proofs.hooked.HookedDown.read_piece.Goals as goal
 
 -- a side that has stopped answers why
@@ -40,15 +42,16 @@ returns-in-Ok-clause-goes g c =
     (told_given c.args.self.now.side.inner c.read_piece.new.self c.pass_piece.new.inner
     c.in-Item.piece c.in-Item.ensures.reads c.in-Ok.ensures.rest)
     h.quiet)
-    (segments_piece _ _ _ _ _ _ _ _ _ _ _ _ _ p h.passed c.in-None.is h.calls
+    (segments_piece s.called h.passed.own c.args.self.now.session.seen.log h.passed.parts _ _
+    c.in-None.is h.calls
     (seen_by c.pass_piece.new.session.seen c.pass_piece.new.inner.session) _
-    (seen_by c.args.self.now.side.session.seen c.read_piece.new.self.session) _ _ c.in-Item.piece
+    (seen_by c.args.self.now.session.seen c.read_piece.new.self.session) _ _ _ c.in-Item.piece
     c.in-Ok.made refl c.in-Ok.ensures.filters)
     (lent_reads s _ _ _ _ c.args.self.now.side.inner c.read_piece.new.self c.pass_piece.new.inner _
-    _ _ _
-    c.args.self.now.side.session.seen _ _ _ _ _ _ _ c.args.self.now.side.stopped p c.in-Item.piece
+    _ _ c.args.self.now.session.seen _ s.called _ _ _ _ _ c.args.self.now.side.stopped p
+    c.in-Item.piece
     c.pass_piece.new.session.seen _ c.in-None.is h.passed
-    c.in-Item.ensures.kept c.in-Ok.ensures.rest
+    c.in-Item.ensures.lasts.head c.in-Ok.ensures.rest
     (ended_behind c.args.self.now.side.inner c.read_piece.new.self c.in-Item.piece
     c.in-Item.ensures.reads)
     (c.in-Item.ensures.goes s _ (past_of _ _ _ _ (not_lost _ c.in-None.is) h.passed.holds))
@@ -58,38 +61,41 @@ pub returns-in-Ok-clause-reads : goal.returns-in-Ok-clause-reads
 returns-in-Ok-clause-reads g c =
     rw (c.either-self.ensures)
     (gives_piece _ c.args.self.now.side.inner c.read_piece.new.self c.pass_piece.new.inner
-    c.args.self.now.side.session.seen _ c.pass_piece.new.session.seen _ _ _
-    c.args.self.now.side.stopped _ c.args.self.now.side.session.seen.log c.in-Item.piece
+    c.args.self.now.session.seen _ c.pass_piece.new.session.seen _ _ _
+    c.args.self.now.side.stopped _ c.args.self.now.session.seen.log c.in-Item.piece
     c.in-Ok.made
     c.in-None.is c.in-Ok.ensures.rest
-    (rw c.in-Item.ensures.kept
+    (rw c.in-Item.ensures.lasts.head
     (subst (λ (x : HttpSession). IsSome (head_of x.reading)) c.session.ensures
     (c.has_head.ensures.0 c.if-not-has_head.false))) c.in-Item.ensures.reads
     c.in-Ok.ensures.filters c.in-Ok.ensures.called)
 
 -- the filter refused it, or memory was wanted
 pub returns-in-Err-clause-goes : goal.returns-in-Err-clause-goes
-returns-in-Err-clause-goes g c = λ s p h.
+returns-in-Err-clause-goes g c =
+    rw c.stop.ensures
+    (λ s p h.
     past_goes
-    (quiet_by _ _ c.failed-self-in-Err.result c.args.self.now.side.inner.told
-    c.pass_piece.new.inner.told c.failed-self-in-Err.ensures
+    (quiet_by _ _ (failed c.in-Err.why c.args.self.now.side.told) c.args.self.now.side.inner.told
+    c.pass_piece.new.inner.told refl
     (told_given c.args.self.now.side.inner c.read_piece.new.self c.pass_piece.new.inner
     c.in-Item.piece c.in-Item.ensures.reads c.in-Err.ensures.rest)
     (quiet_stops c.in-Err.why c.args.self.now.side.stopped c.args.self.now.side.told
     c.args.self.now.side.inner.told h.quiet))
-    (segments_refused _ _ _ _ _ _ _ _ _ _ _ _ _ p h.passed c.in-None.is h.calls
+    (segments_refused s.called h.passed.own c.args.self.now.session.seen.log h.passed.parts _ _
+    c.in-None.is h.calls
     (seen_by c.pass_piece.new.session.seen c.pass_piece.new.inner.session) _
-    (seen_by c.args.self.now.side.session.seen c.read_piece.new.self.session) _
+    (seen_by c.args.self.now.session.seen c.read_piece.new.self.session) _ _
     c.args.self.now.side.ended c.in-Item.piece c.in-Err.why refl c.in-Err.ensures.filters)
     (lent_stops s _ _ _ _ c.args.self.now.side.inner c.read_piece.new.self c.pass_piece.new.inner _
-    _ _ _
-    c.args.self.now.side.session.seen _ _ _ _ _ _ _ c.args.self.now.side.stopped p c.in-Item.piece
+    _ _ c.args.self.now.session.seen _ s.called _ _ _ _ _ c.args.self.now.side.stopped p
+    c.in-Item.piece
     c.pass_piece.new.session.seen _ c.in-None.is h.passed
-    c.in-Item.ensures.kept c.in-Err.ensures.rest
+    c.in-Item.ensures.lasts.head c.in-Err.ensures.rest
     (ended_behind c.args.self.now.side.inner c.read_piece.new.self c.in-Item.piece
     c.in-Item.ensures.reads)
     (c.in-Item.ensures.goes s _ (past_of _ _ _ _ (not_lost _ c.in-None.is) h.passed.holds))
-    c.in-Err.why c.in-Err.ensures.filters)
+    c.in-Err.why c.in-Err.ensures.filters))
 
 -- the link gave bytes
 pub returns-in-More-clause-goes : goal.returns-in-More-clause-goes
@@ -99,11 +105,10 @@ returns-in-More-clause-goes g c = λ s p h.
     c.read_piece.new.self.told refl
     (ap (λ (x : DownState). x.told) c.in-More.ensures.reads)
     h.quiet) h.calls
-    (client_goes s _ _ _ _ c.args.self.now.side.inner c.read_piece.new.self _ _ _
-    c.args.self.now.side.session.seen
-    _ _ _ _ _ _ _ c.args.self.now.side.stopped p _ _ _ p.batched _ [] _ h.passed
-    (not_lost _ c.in-None.is) c.in-More.ensures.kept (append-nil h.passed.came)
-    (append-nil p.put) refl refl (sym (append-nil p.closing))
+    (client_goes s _ _ _ _ c.args.self.now.side.inner c.read_piece.new.self _ _ _ _ _ _ _ _ _
+    c.args.self.now.side.stopped p _ _ _ p.batched _ _ h.passed
+    (not_lost _ c.in-None.is) c.in-More.ensures.lasts.head (append-nil h.passed.came)
+    (append-nil p.put) refl refl
     (c.in-More.ensures.goes s _ (past_of _ _ _ _ (not_lost _ c.in-None.is) h.passed.holds)))
 
 pub returns-in-More-clause-gives : goal.returns-in-More-clause-gives
@@ -119,11 +124,10 @@ returns-in-Waited-clause-goes g c = λ s p h.
     (ap (λ (x : DownState). x.told) c.in-Waited.ensures.reads)
     (quiet_paused c.in-Waited.pause c.args.self.now.side.stopped
     c.args.self.now.side.told c.args.self.now.side.inner.told h.quiet)) h.calls
-    (client_goes s _ _ _ _ c.args.self.now.side.inner c.read_piece.new.self _ _ _
-    c.args.self.now.side.session.seen
-    _ _ _ _ _ _ _ c.args.self.now.side.stopped p _ _ _ p.batched _ [] _ h.passed
-    (not_lost _ c.in-None.is) c.in-Waited.ensures.kept (append-nil h.passed.came)
-    (append-nil p.put) refl refl (sym (append-nil p.closing))
+    (client_goes s _ _ _ _ c.args.self.now.side.inner c.read_piece.new.self _ _ _ _ _ _ _ _ _
+    c.args.self.now.side.stopped p _ _ _ p.batched _ _ h.passed
+    (not_lost _ c.in-None.is) c.in-Waited.ensures.lasts.head (append-nil h.passed.came)
+    (append-nil p.put) refl refl
     (c.in-Waited.ensures.goes s _ (past_of _ _ _ _ (not_lost _ c.in-None.is) h.passed.holds)))
 
 -- the inner side failed
@@ -135,9 +139,61 @@ returns-in-Failed-clause-goes g c = λ s p h.
     (ap (λ (x : DownState). x.told) c.in-Failed.ensures.reads)
     (quiet_failed c.in-Failed.why c.args.self.now.side.stopped
     c.args.self.now.side.told c.args.self.now.side.inner.told h.quiet)) h.calls
-    (client_goes s _ _ _ _ c.args.self.now.side.inner c.read_piece.new.self _ _ _
-    c.args.self.now.side.session.seen
-    _ _ _ _ _ _ _ c.args.self.now.side.stopped p _ _ _ p.batched _ [] _ h.passed
-    (not_lost _ c.in-None.is) c.in-Failed.ensures.kept (append-nil h.passed.came)
-    (append-nil p.put) refl refl (sym (append-nil p.closing))
+    (client_goes s _ _ _ _ c.args.self.now.side.inner c.read_piece.new.self _ _ _ _ _ _ _ _ _
+    c.args.self.now.side.stopped p _ _ _ p.batched _ _ h.passed
+    (not_lost _ c.in-None.is) c.in-Failed.ensures.lasts.head (append-nil h.passed.came)
+    (append-nil p.put) refl refl
     (c.in-Failed.ensures.goes s _ (past_of _ _ _ _ (not_lost _ c.in-None.is) h.passed.holds)))
+
+-- ---- what lasts
+
+pub returns-in-Some-clause-lasts : goal.returns-in-Some-clause-lasts
+returns-in-Some-clause-lasts g c =
+    lasts_same _ _ _ _ (is_lost c.args.self.now.side.stopped) c.args.self.now.session.seen
+    c.args.self.now.side.inner.session _
+
+pub returns-then-not-has_head-clause-lasts : goal.returns-then-not-has_head-clause-lasts
+returns-then-not-has_head-clause-lasts g c =
+    lasts_same _ _ _ _ (is_lost c.args.self.now.side.stopped) c.args.self.now.session.seen
+    c.args.self.now.side.inner.session _
+
+pub returns-in-Ok-clause-lasts : goal.returns-in-Ok-clause-lasts
+returns-in-Ok-clause-lasts g c =
+    lasts_piece _ _ _ _ _ c.args.self.now.side.stopped c.args.self.now.session.seen
+    c.args.self.now.side.inner.session c.read_piece.new.self.session
+    c.pass_piece.new.inner.session _ _ c.in-Item.piece c.in-Ok.made
+    c.pass_piece.new.session.seen _ c.in-None.is
+    (subst (λ (x : HttpSession). IsSome (head_of x.reading)) c.session.ensures
+    (c.has_head.ensures.0 c.if-not-has_head.false))
+    c.in-Item.ensures.lasts c.in-Ok.ensures.filters
+
+pub returns-in-Err-clause-lasts : goal.returns-in-Err-clause-lasts
+returns-in-Err-clause-lasts g c =
+    rw c.stop.ensures
+    (lasts_refused _ _ _ _ _ c.args.self.now.side.stopped c.in-Err.why
+    c.args.self.now.session.seen c.args.self.now.side.inner.session
+    c.read_piece.new.self.session c.pass_piece.new.inner.session _ c.args.self.now.side.ended
+    c.in-Item.piece c.pass_piece.new.session.seen _ c.in-None.is
+    (subst (λ (x : HttpSession). IsSome (head_of x.reading)) c.session.ensures
+    (c.has_head.ensures.0 c.if-not-has_head.false))
+    c.in-Item.ensures.lasts c.in-Err.ensures.filters)
+
+pub returns-in-More-clause-lasts : goal.returns-in-More-clause-lasts
+returns-in-More-clause-lasts g c =
+    lasts_side _ _ _ _ (is_lost c.args.self.now.side.stopped) c.args.self.now.session.seen
+    c.args.self.now.side.inner.session c.read_piece.new.self.session _ c.in-More.ensures.lasts
+
+pub returns-in-Waited-clause-lasts : goal.returns-in-Waited-clause-lasts
+returns-in-Waited-clause-lasts g c =
+    lasts_side _ _ _ _ (is_lost c.args.self.now.side.stopped) c.args.self.now.session.seen
+    c.args.self.now.side.inner.session c.read_piece.new.self.session _ c.in-Waited.ensures.lasts
+
+pub returns-in-End-clause-lasts : goal.returns-in-End-clause-lasts
+returns-in-End-clause-lasts g c =
+    lasts_side _ _ _ _ (is_lost c.args.self.now.side.stopped) c.args.self.now.session.seen
+    c.args.self.now.side.inner.session c.read_piece.new.self.session _ c.in-End.ensures.lasts
+
+pub returns-in-Failed-clause-lasts : goal.returns-in-Failed-clause-lasts
+returns-in-Failed-clause-lasts g c =
+    lasts_side _ _ _ _ (is_lost c.args.self.now.side.stopped) c.args.self.now.session.seen
+    c.args.self.now.side.inner.session c.read_piece.new.self.session _ c.in-Failed.ensures.lasts

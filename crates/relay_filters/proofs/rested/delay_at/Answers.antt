@@ -1,7 +1,7 @@
 -- The call stands at that place.
 use Rattle.std.proofs.Common.{sym}
 use Rattle.relay_filters.proofs.DelayLemmas.{one_more}
-use Rattle.relay_filters.proofs.unhooked.delay_at.Goals as goal
+use Rattle.relay_filters.proofs.rested.delay_at.Goals as goal
 
 pub returns : goal.returns
 returns c =

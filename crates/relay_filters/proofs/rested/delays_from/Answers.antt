@@ -1,7 +1,7 @@
 -- One call more is summed, up to the last.
 use Rattle.std.proofs.Common.{◌^◌, ◌-◌, arith}
 use Rattle.relay_filters.proofs.DelayLemmas.{summed_all, summed_on}
-use Rattle.relay_filters.proofs.unhooked.delays_from.Goals as goal
+use Rattle.relay_filters.proofs.rested.delays_from.Goals as goal
 
 pub loop-at-preserved : goal.loop-at-preserved
 loop-at-preserved c =

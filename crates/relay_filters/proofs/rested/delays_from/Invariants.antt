@@ -1,6 +1,6 @@
 use Rattle.std.proofs.Common.{◌≡◌, ◌+◌, ◌-◌, ◌^◌, ◌≤◌, drop, length, min}
 use Rattle.relay_filters.specs.Delay.{delays_of}
-use Rattle.relay_filters.proofs.unhooked.delays_from.Given as goal
+use Rattle.relay_filters.proofs.rested.delays_from.Given as goal
 
 -- the sum so far and what is left are all of it
 abbrev pub invariant-loop-at : goal.invariant-loop-at

@@ -1,7 +1,8 @@
-//! The client's side behind filters without the application that has them: all of it that may be
-//! held between two turns.
-ghost use Rattle.std.specs.Prelude.{◌≡◌, ◌&&◌, ◌<◌, ◌+◌, ◌^◌, ◌-◌, drop, length, min, is_some};
+//! The client's side behind filters without the application that has them, and without the session
+//! and the context that hooks are shown: all of it that is held between two turns.
+ghost use Rattle.std.specs.Prelude.{◌≡◌, ◌&&◌, ◌<◌, ◌+◌, ◌^◌, ◌-◌, None, Some, drop, false, length, min, is_some, true};
 ghost use Rattle.relay_session.specs.Reading.{is_body_done};
+ghost use Rattle.relay_core.specs.Told.{failed};
 ghost use Rattle.relay_filters.specs.Delay.{delays_of};
 ghost use Rattle.relay_filters.specs.Hooked.{is_lost, state_of_side};
 
@@ -19,20 +20,15 @@ pub(crate) struct Shown {
     pub(crate) pending: bool,
 }
 
-/// A client's side behind filters, without the application. It borrows nothing: `Hooked::suspend`
-/// gives it, and `Hooked::resume` takes it.
+/// A client's side behind filters, without the application, the session and the context. It borrows
+/// nothing: `Hooked::suspend` gives it, and `Hooked::resume` takes it.
 #[derive(Drop)]
-pub struct Unhooked<M, C> {
-    // What hooks are shown: between their calls a stand-in is in the place of the client's session.
-    pub(crate) session: Session<M>,
-    pub(crate) ctx: C,
+pub struct Rested {
     // Has the client's session, but while hooks are called.
     pub(crate) inner: ClientSide,
     pub(crate) told: Told,
     // Whether the request is a HEAD, whose response has no body.
     pub(crate) of_head: bool,
-    // How many calls stood in the log before the side's own.
-    pub(crate) first: usize,
     // How many calls of the log had their delays taken.
     pub(crate) counted: usize,
     // Whether the request had ended before the first piece.
@@ -85,20 +81,73 @@ fn is_lost(stopped: Option<Fail>) -> bool
     }
 }
 
-impl<M, C> Unhooked<M, C> {
-    /// The inner side, the session and the context alone.
-    pub fn into_parts(self) -> (ClientSide, Session<M>, C)
-        ensures inner { result.0 ≡ self.inner }
-        ensures session { result.1 ≡ self.session }
-        ensures ctx { result.2 ≡ self.ctx }
+/// Whether modules stood for each batch, one more included that passed as they stand.
+pub(crate) fn still_stood<M>(stood: bool, session: &Session<M>) -> bool
+    ensures { result ≡ (stood && is_some session.now.modules) }
+{
+    stood && session.modules.is_some()
+}
+
+impl Rested {
+    /// A side over that one, which nothing has stopped; `ended` says that the request has ended.
+    pub(crate) fn new(
+        inner: ClientSide,
+        told: Told,
+        of_head: bool,
+        counted: usize,
+        ended: bool,
+    ) -> Rested
+        ensures { result ≡ record {
+          inner = inner;
+          told = told;
+          of_head = of_head;
+          counted = counted;
+          at_first = ended;
+          ended = ended;
+          stopped = None;
+          refused = false;
+          stood = true;
+          was = record { body_done = false; pending = false };
+        } }
     {
-        let Unhooked {
-            session,
-            ctx,
+        Rested {
+            inner,
+            told,
+            of_head,
+            counted,
+            at_first: ended,
+            ended,
+            stopped: None,
+            refused: false,
+            stood: true,
+            was: Shown {
+                body_done: false,
+                pending: false,
+            },
+        }
+    }
+
+    /// Something that a filter refused stops the side, which showed that before.
+    pub(crate) fn stop(&mut self, why: Fail, was: Shown)
+        ensures { self.new ≡ record self.old {
+          stopped = Some why;
+          was = was;
+          told = failed why self.old.told;
+        } }
+    {
+        self.stopped = Some(why);
+        self.was = was;
+        self.told = self.told.failed(why);
+    }
+
+    /// The inner side alone.
+    pub fn into_inner(self) -> ClientSide
+        ensures { result ≡ self.inner }
+    {
+        let Rested {
             inner,
             told: _,
             of_head: _,
-            first: _,
             counted: _,
             at_first: _,
             ended: _,
@@ -107,7 +156,7 @@ impl<M, C> Unhooked<M, C> {
             stood: _,
             was: _,
         } = self;
-        (inner, session, ctx)
+        inner
     }
 
     /// The inner side, which has the client's session.
@@ -117,23 +166,13 @@ impl<M, C> Unhooked<M, C> {
         &self.inner
     }
 
-    /// The session whose log has the calls. A stand-in is in the place of the client's session.
-    pub fn session(&self) -> &Session<M>
-        ensures { result.now ≡ self.now.session }
-    {
-        &self.session
-    }
-
     /// The delay in milliseconds that the filters of pieces asked for since it was last taken, or
-    /// since the side was made: the sum over the calls in the log, and 0 where none asked. A sum
-    /// that does not fit stands at the last value.
-    pub fn take_delay(&mut self) -> u64
-        ensures sum { result
-            ≡ min (delays_of (drop self.old.counted self.old.session.seen.log)) (2 ^ 64 - 1) }
-        ensures counted { self.new
-            ≡ record self.old { counted = length self.old.session.seen.log } }
+    /// since the side was made: the sum over the calls in that log, which is the session's, and 0
+    /// where none asked. A sum that does not fit stands at the last value.
+    pub fn take_delay(&mut self, log: &PhaseLog) -> u64
+        ensures sum { result ≡ min (delays_of (drop self.old.counted log.now)) (2 ^ 64 - 1) }
+        ensures counted { self.new ≡ record self.old { counted = length log.now } }
     {
-        let log = &self.session.seen.log;
         let sum = delays_from(log, self.counted);
         self.counted = log.len();
         sum
@@ -144,13 +183,6 @@ impl<M, C> Unhooked<M, C> {
         ensures { result ≡ self.now.stood }
     {
         self.stood
-    }
-
-    /// Whether modules stood for each batch, one more included that passed as they stand.
-    pub(crate) fn still_stood(&self) -> bool
-        ensures { result ≡ (self.now.stood && is_some self.now.session.modules) }
-    {
-        self.stood && self.session.modules.is_some()
     }
 
     /// What the side shows while it has not stopped.
