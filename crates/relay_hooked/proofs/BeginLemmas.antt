@@ -3,7 +3,7 @@
 --
 --   end_of                what a piece puts has an end exactly where the piece is one
 --   puts_none, has_head   a session of whose body something is put again has a head
---   holds_on              what a side holds it holds held alone, of the same past
+--   by_head               whether a request is a HEAD, by the head that its session has
 --   calls_none, calls_by, cannot_by   what was called: nothing; or the filter of requests, and what
 --                         was kept passed, or did not
 --   grown                 the log has grown by that call
@@ -27,20 +27,16 @@ use Rattle.relay_session.specs.declared.reading.Reading.{Reading}
 use Rattle.relay_session.specs.declared.reading.Reading.TheVariants as reading
 use Rattle.relay_session.specs.declared.session.HttpSession.{HttpSession}
 use Rattle.relay_modules.specs.declared.session.Session.{Session}
-use Rattle.relay_links.specs.Link.{LinkState}
-use Rattle.relay_core.specs.Past.{Origin, DownPast}
 use Rattle.relay_core.specs.Piece.{is_empty, put_of, task_put_of}
 use Rattle.relay_core.specs.declared.piece.Piece.{Piece}
 use Rattle.relay_hooks.specs.Standing.{Standing}
 use Rattle.relay_sides.specs.Client.{put_again}
+use Rattle.relay_sides.specs.Filtered.{is_head_request}
 use Rattle.relay_filters.specs.Hooked.{seen_by}
 use Rattle.relay_filters.specs.Request.{Filters, is_last}
-use Rattle.relay_filters.specs.declared.unhooked.Unhooked.{Unhooked}
 use Rattle.relay_hooked.specs.Begins.{CallsOnce, CannotPut, IsRefusedFor, kept_piece}
-use Rattle.relay_hooked.specs.Exchange.{SideHolds}
-use Rattle.relay_hooked.specs.declared.exchange.HookedExchange.{HookedExchange}
+use Rattle.relay_hooked.specs.declared.exchange.Begun.{Begun}
 use Rattle.relay_hooked.specs.declared.exchange.Unbegun.{Unbegun}
-use Rattle.relay_hooked.proofs.AppLemmas.{holds_by}
 
 -- ---- a piece
 
@@ -74,6 +70,17 @@ puts_one piece = of (task_put_of false piece)
     of None some = absurd (cc)
     of (Some task) some = refl
 
+-- ---- the head
+
+-- a session whose head asks so, as the client's bytes do, asks as these
+pub by_head : (head : Option RequestHead) (asks : Bool) (method : List ℕ) → IsSome head
+    → ((own : RequestHead) → head ≡ Some own → asks ≡ is_head_request own.method)
+    → ((own : RequestHead) → head ≡ Some own
+    → is_head_request own.method ≡ is_head_request method)
+    → asks ≡ is_head_request method
+by_head None asks method some says heads = absurd (cc)
+by_head (Some own) asks method some says heads = says own refl ∙ heads own refl
+
 -- ---- what was kept
 
 -- a session of whose body something is put again has a head
@@ -100,19 +107,6 @@ last_is_end client last = end_of (kept_piece client) ∙ one (is_body_done clien
     one true is = refl
     one false is = is
 
--- ---- the side
-
--- what a side holds by the law of an application it holds by that of the same, held alone, of the
--- same past
-pub holds_on : {A M C : Type 0} (law : A → Standing → LogEntry → Type 0) (mark : A → C → ℕ)
-    (a b : A) → a ≡ b → (s : Origin) (link : LinkState) (ahead : List ℕ) (u held : Unhooked M C)
-    → held ≡ u → (p q : DownPast) → p ≡ q → SideHolds (law a) (mark a) link ahead s u p
-    → SideHolds (law b) (mark b) link ahead s held q
-holds_on {A} {M} {C} law mark a b same s link ahead u held is p q past h =
-    subst (λ (r : DownPast). SideHolds (law b) (mark b) link ahead s held r) past
-    (subst (λ (x : Unhooked M C). SideHolds (law b) (mark b) link ahead s x p) (sym is)
-    (holds_by law mark a b same s link ahead u p h))
-
 -- ---- the calls
 
 module _ {M C : Type 0} (session : Session M) (ctx : C) (client : HttpSession)
@@ -131,43 +125,36 @@ module _ {M C : Type 0} (session : Session M) (ctx : C) (client : HttpSession)
         let log = ap (λ (l : List LogEntry). length l) f.call.log ∙ length-append session.seen.log _ in
         omega arith
 
-module _ {M C : Type 0} (session : Session M) (ctx : C) (client : HttpSession)
-    (allows : Standing → LogEntry → Type 0) (mark_of : C → ℕ) (u held : Unhooked M C)
-    (is : held ≡ u)
-  where
     -- no hook was called
-    pub calls_none : put_again client ≡ [] → u.session ≡ session → u.ctx ≡ ctx
-        → u.inner.session ≡ client
-        → CallsOnce session ctx client allows mark_of held.session held.ctx held.inner.session
+    pub calls_none : put_again client ≡ [] → session' ≡ session → ctx' ≡ ctx → client' ≡ client
+        → CallsOnce session ctx client allows mark_of session' ctx' client'
     calls_none empty session_same ctx_same client_same =
-        subst (λ (x : Unhooked M C).
-        CallsOnce session ctx client allows mark_of x.session x.ctx x.inner.session) (sym is)
-        (CallsOnce.none empty (record {
+        CallsOnce.none empty (record {
           session_same = session_same;
           ctx_same = ctx_same;
           client_same = client_same;
-        }))
+        })
 
     module _ (kept : Piece) (is_kept : kept ≡ kept_piece client)
         (puts : is_some (task_put_of false kept) ≡ true) (lent : HttpSession)
         (is_lent : lent ≡ client) (result : Result Piece Fail)
         (filters : Filters allows false kept result (seen_by session.seen lent) (mark_of ctx)
-        (seen_by u.session.seen u.inner.session) (mark_of u.ctx))
+        (seen_by session'.seen client') (mark_of ctx'))
       where
         -- the call was that of what was kept
         by_kept : (answer : Result Piece Fail) → result ≡ answer
             → Filters allows false (kept_piece client) answer (seen_by session.seen client)
-            (mark_of ctx) (seen_by u.session.seen u.inner.session) (mark_of u.ctx)
+            (mark_of ctx) (seen_by session'.seen client') (mark_of ctx')
         by_kept answer answers =
             subst (λ (r : Result Piece Fail).
             Filters allows false (kept_piece client) r (seen_by session.seen client) (mark_of ctx)
-            (seen_by u.session.seen u.inner.session) (mark_of u.ctx)) answers
+            (seen_by session'.seen client') (mark_of ctx')) answers
             (subst (λ (c : HttpSession).
             Filters allows false (kept_piece client) result (seen_by session.seen c) (mark_of ctx)
-            (seen_by u.session.seen u.inner.session) (mark_of u.ctx)) is_lent
+            (seen_by session'.seen client') (mark_of ctx')) is_lent
             (subst (λ (k : Piece).
             Filters allows false k result (seen_by session.seen lent) (mark_of ctx)
-            (seen_by u.session.seen u.inner.session) (mark_of u.ctx)) is_kept filters))
+            (seen_by session'.seen client') (mark_of ctx')) is_kept filters))
 
         -- which put one task
         one : length (put_again client) ≡ 1
@@ -175,36 +162,16 @@ module _ {M C : Type 0} (session : Session M) (ctx : C) (client : HttpSession)
 
         -- what was kept passed its filter
         pub calls_by : (made : Piece) → result ≡ Ok made
-            → CallsOnce session ctx client allows mark_of held.session held.ctx held.inner.session
-        calls_by made passed =
-            subst (λ (x : Unhooked M C).
-            CallsOnce session ctx client allows mark_of x.session x.ctx x.inner.session) (sym is)
-            (CallsOnce.once one made (by_kept (Ok made) passed))
+            → CallsOnce session ctx client allows mark_of session' ctx' client'
+        calls_by made passed = CallsOnce.once one made (by_kept (Ok made) passed)
 
-        -- it did not, over the side alone
-        cannot : (why : Fail) → result ≡ Err why
-            → CannotPut session ctx client allows mark_of why u.session u.ctx u.inner.session
-        cannot (fail.Error e) failed =
+        -- or it did not
+        pub cannot_by : (why : Fail) → result ≡ Err why
+            → CannotPut session ctx client allows mark_of why session' ctx' client'
+        cannot_by (fail.Error e) failed =
             CannotPut.by_filter e refl one (by_kept (Err (fail.Error e)) failed)
-        cannot fail.OutOfMemory failed =
+        cannot_by fail.OutOfMemory failed =
             CannotPut.in_filter refl one (by_kept (Err fail.OutOfMemory) failed)
-
-        -- and over all that comes back
-        pub cannot_by : (why : Fail) → result ≡ Err why → (x : Unbegun M C Unit)
-            → x ≡ record {
-              session = held.session;
-              ctx = held.ctx;
-              client = held.inner.session;
-              link = tt;
-              why = why;
-            }
-            → CannotPut session ctx client allows mark_of x.why x.session x.ctx x.client
-        cannot_by why failed x back =
-            subst (λ (y : Unbegun M C Unit).
-            CannotPut session ctx client allows mark_of y.why y.session y.ctx y.client) (sym back)
-            (subst (λ (h : Unhooked M C).
-            CannotPut session ctx client allows mark_of why h.session h.ctx h.inner.session)
-            (sym is) (cannot why failed))
 
 -- ---- what is refused
 
@@ -223,7 +190,7 @@ module _ {M C L : Type 0} (session : Session M) (ctx : C) (client : HttpSession)
 
     -- one that was not begun is that one
     same_unbegun : (x other : Unbegun M C L)
-        → ◌≡◌ {A = Result (HookedExchange M C L) (Unbegun M C L)} (Err x) (Err other) → other ≡ x
+        → ◌≡◌ {A = Result (Begun M C L) (Unbegun M C L)} (Err x) (Err other) → other ≡ x
     same_unbegun x other same = cc
 
     -- where nothing could be put first the head was not refused: a filter that answered the same

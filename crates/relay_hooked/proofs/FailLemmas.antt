@@ -23,7 +23,6 @@ use Rattle.relay_core.specs.Moves.{HasReason, Refused}
 use Rattle.relay_core.specs.Past.{Origin, DownPast, UpPast}
 use Rattle.relay_core.proofs.BoolLemmas.{decide}
 use Rattle.relay_core.specs.declared.duplex.Duplex.{Duplex}
-use Rattle.relay_hooks.specs.Standing.{Standing}
 use Rattle.relay_sides.specs.Client.{AllPass, ClientBlames, ClientRefuses, CannotEnd, Counts, CountsRead, IsUnanswered}
 use Rattle.relay_sides.specs.Client as client
 use Rattle.relay_sides.specs.Filtered.{is_head_request, stops_for_error}
@@ -87,9 +86,9 @@ module _ (s : Origin) (p : DownPast) (put put' queued queued' : List HttpTask) (
 -- ---- the causes
 
 module _ {L : Type 0} (state : L → LinkState) (start_at : L → LinkStart)
-    (allows : Standing → LogEntry → Type 0) (link : LinkState) (ahead : List ℕ) (s : Origin)
+    (link : LinkState) (ahead : List ℕ) (s : Origin)
     (b : Behind) (up : PeerSide L) (duplex : Duplex) (p : DownPast) (q : UpPast) (e : Error)
-    (so_far : GoesSoFar state start_at allows link ahead s b up duplex p q)
+    (so_far : GoesSoFar state start_at link ahead s b up duplex p q)
     (tells : TellsAlone b e)
   where
     -- the client's side told none, or this one alone, and no filter stopped the side over it
@@ -106,11 +105,11 @@ module _ {L : Type 0} (state : L → LinkState) (start_at : L → LinkStart)
 
     -- it failed with the error, for a cause
     abbrev Fails : Type 0
-    Fails = FailsWith (filtering b) s (passed_by p q) link (state up.client.link)
+    Fails = FailsWith (filtering s b) s (passed_by p q) link (state up.client.link)
         (start_at up.client.link) b.side.session e
 
     -- for that cause, where the session holds what was queued by it
-    fails_as : (why : FailsFor (filtering b) s (passed_by p q) link (state up.client.link)
+    fails_as : (why : FailsFor (filtering s b) s (passed_by p q) link (state up.client.link)
         (start_at up.client.link) e)
         → Holds b.side.session.writing
         ((causes.order_of why).queued ++ (causes.order_of why).closing) p.written → Fails
@@ -129,16 +128,16 @@ module _ {L : Type 0} (state : L → LinkState) (start_at : L → LinkStart)
     held = so_far.down.passed.holds.passed.client.response
 
     -- the client's half
-    abbrev half : HookedHalf (filtering b) s link b.ended b.side.done p
-    half = hooked_half allows link ahead s b p so_far.down
+    abbrev half : HookedHalf (filtering s b) s link b.ended b.side.done p
+    half = hooked_half link ahead s b p so_far.down
 
     -- the order, by the first refusal
     abbrev in_order : (refused : Option Error)
         → first_refusal (request_of s.head) place.NoHead
         (so_far.down.passed.queued ++ p.closing) ≡ refused
-        → IsInOrderWith refused (filtering b) s (passed_by p q) (state up.client.link).ended
+        → IsInOrderWith refused (filtering s b) s (passed_by p q) (state up.client.link).ended
     in_order refused passes =
-        order_by state start_at allows link ahead s b up duplex p q so_far half refused passes
+        order_by state start_at link ahead s b up duplex p q so_far half refused passes
 
     -- none of the tasks that were queued is refused, or the first that is is so with the error
     queued_by : AllPass s (so_far.down.passed.queued ++ p.closing)
@@ -205,8 +204,7 @@ module _ {L : Type 0} (state : L → LinkState) (start_at : L → LinkStart)
         fails_as
         (FailsFor.by_filter (in_order None passes) is
         (subst (λ (es : List LogEntry). Refuses (is_head_request s.head.method) e es)
-        (own_calls b.first so_far.down.passed.before so_far.down.passed.own b.seen.log
-        so_far.down.passed.parts so_far.down.passed.began)
+        (own_calls s.called so_far.down.passed.own b.log so_far.down.passed.parts)
         (subst (λ (of_head : Bool). Refuses of_head e so_far.down.passed.own)
         so_far.down.passed.is_of_head (so_far.down.passed.told e is)))) held
 
@@ -224,16 +222,17 @@ module _ {L : Type 0} (state : L → LinkState) (start_at : L → LinkStart)
         (left rest : List HttpTask) (read : q.read ≡ p.batched ++ (left ++ rest))
         (came queued made : List HttpTask)
         (holds : DownHolds link ahead b.side s (inside p came queued))
-        (half' : HookedHalf (filtering b) s link b.ended b.side.done p)
+        (half' : HookedHalf (filtering s b) s link b.ended b.side.done p)
         (is_half : half'.queued ≡ queued)
-        (made_so : WasMade b.of_head b.stand left made)
+        (own : List LogEntry) (parts : b.log ≡ s.called ++ own)
+        (made_so : WasMade b.of_head b.stand own left made)
       where
         -- the order, by the first refusal of these tasks
         abbrev order_here : (refused : Option Error)
             → first_refusal (request_of s.head) place.NoHead (queued ++ p.closing) ≡ refused
-            → IsInOrderWith refused (filtering b) s (passed_by p q) (state up.client.link).ended
+            → IsInOrderWith refused (filtering s b) s (passed_by p q) (state up.client.link).ended
         order_here refused passes =
-            order_by state start_at allows link ahead s b up duplex p q so_far half' refused
+            order_by state start_at link ahead s b up duplex p q so_far half' refused
             (subst (λ (l : List HttpTask).
             first_refusal (request_of s.head) place.NoHead (l ++ p.closing) ≡ refused)
             (sym is_half) passes)
@@ -278,8 +277,11 @@ module _ {L : Type 0} (state : L → LinkState) (start_at : L → LinkStart)
             (ap (λ (l : List HttpTask). first_refusal (request_of s.head) place.NoHead l)
             (none_behind unasked queued) ∙ passes)) b.stand left made unasked
             (record { rest = rest; joined = append_assoc p.batched left rest ∙ sym read })
-            (subst (λ (of_head : Bool). WasMade of_head b.stand left made)
-            so_far.down.passed.is_of_head made_so)
+            (subst (λ (es : List LogEntry).
+            WasMade (is_head_request s.head.method) b.stand es left made)
+            (own_calls s.called own b.log parts)
+            (subst (λ (of_head : Bool). WasMade of_head b.stand own left made)
+            so_far.down.passed.is_of_head made_so))
             (ap (λ (l : List HttpTask).
             first_refusal (request_of s.head) place.NoHead (l ++ made)) is_half
             ∙ first_refusal-append (request_of s.head) place.NoHead queued made
@@ -319,11 +321,10 @@ module _ {L : Type 0} (state : L → LinkState) (start_at : L → LinkStart)
       where
         on : HookedRefuses link ahead s b p r.left e → Fails
         on (RefusesOver.by_filter before own parts stops refuses is) = fails_stopped is
-        on (RefusesOver.by_inner came queued made holds before own parts began makes made_so
-            refuses) =
+        on (RefusesOver.by_inner came queued made holds own parts makes made_so refuses) =
             fails_made r.left r.rest r.came came queued made holds
-            (half_with allows link ahead s b p so_far.down came queued holds before own parts began
-            makes) refl made_so (r.unasked refl) refuses
+            (half_with link ahead s b p so_far.down came queued holds own parts makes) refl own
+            parts made_so (r.unasked refl) refuses
         on (RefusesOver.had_stopped is) = fails_stopped is
 
     -- the end of the response that was asked for is refused
@@ -341,9 +342,9 @@ module _ {L : Type 0} (state : L → LinkState) (start_at : L → LinkStart)
     fails_unended came queued holds cannot (inl ends) =
         let refused = ap (λ (at : Place). refusal (request_of s.head) at task.Done)
         (sym (same_place came queued holds)) ∙ cannot.refused in
-        let made = ends_made (filtering b) s link (state up.client.link) (start_at up.client.link)
+        let made = ends_made (filtering s b) s link (state up.client.link) (start_at up.client.link)
         b.ended (hooked_state b) refl
-        (attempt_by state start_at allows link ahead s b up duplex p q so_far half) ∙ ends in
+        (attempt_by state start_at link ahead s b up duplex p q so_far half) ∙ ends in
         elim queued_by [
           | inl pass ↦ fails_as (FailsFor.by_end None (in_order None pass) made
               (inr (no_head pass ends refused)) refused) held
@@ -364,7 +365,7 @@ module _ {L : Type 0} (state : L → LinkState) (start_at : L → LinkStart)
           | inl has ↦ absurd (over_ends (request_of s.head)
               (wire (request_of s.head) place.NoHead
               (so_far.down.passed.queued ++ p.closing)).place e
-              (over_made state start_at allows link ahead s b up duplex p q so_far pass ends has)
+              (over_made state start_at link ahead s b up duplex p q so_far pass ends has)
               refused)
           | inr none ↦ none
         ]

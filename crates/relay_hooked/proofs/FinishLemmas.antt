@@ -7,7 +7,6 @@ use Rattle.std.specs.List.{list_any}
 use Rattle.std.proofs.lemmas.Bool.Decides.{nat_tests}
 use Rattle.relay_tasks.specs.declared.error.Error.{Error}
 use Rattle.relay_tasks.specs.declared.fault.Fault.{Fault}
-use Rattle.relay_tasks.specs.declared.log.LogEntry.{LogEntry}
 use Rattle.relay_tasks.specs.declared.task.HttpTask.{HttpTask}
 use Rattle.relay_tasks.specs.Head.{RequestHead}
 use Rattle.relay_tasks.specs.Task.{is_end}
@@ -35,7 +34,6 @@ use Rattle.relay_core.specs.Past.{Origin, DownPast, UpPast}
 use Rattle.relay_core.specs.declared.duplex.Duplex.{Duplex}
 use Rattle.relay_core.proofs.BoolLemmas.{and_both, and_left, and_right, clash, decide, not_false}
 use Rattle.relay_core.proofs.TaskLemmas.{any_left}
-use Rattle.relay_hooks.specs.Standing.{Standing}
 use Rattle.relay_sides.specs.Client.{AllPass}
 use Rattle.relay_sides.specs.Filtered.{is_head_request}
 use Rattle.relay_sides.proofs.ClientPast.{open_is_whole}
@@ -125,18 +123,18 @@ front_last front rest tasks joined last = λ first behind same found.
     none_of (x ∷ xs) ys none = absurd (cc)
 
 module _ {L : Type 0} (state : L → LinkState) (start_at : L → LinkStart)
-    (allows : Standing → LogEntry → Type 0) (link : LinkState) (ahead : List ℕ) (s : Origin)
+    (link : LinkState) (ahead : List ℕ) (s : Origin)
     (b : Behind) (up : PeerSide L) (duplex : Duplex) (p : DownPast) (q : UpPast)
-    (so_far : GoesSoFar state start_at allows link ahead s b up duplex p q)
+    (so_far : GoesSoFar state start_at link ahead s b up duplex p q)
     (passes : AllPass s (so_far.down.passed.queued ++ p.closing))
   where
     -- what passed is in order
-    abbrev in_order : IsInOrder (filtering b) s (passed_by p q) (state up.client.link).ended
-    in_order = order_so_far state start_at allows link ahead s b up duplex p q so_far passes
+    abbrev in_order : IsInOrder (filtering s b) s (passed_by p q) (state up.client.link).ended
+    in_order = order_so_far state start_at link ahead s b up duplex p q so_far passes
 
     -- the client's half
-    abbrev half : HookedHalf (filtering b) s link b.ended b.side.done p
-    half = hooked_half allows link ahead s b p so_far.down
+    abbrev half : HookedHalf (filtering s b) s link b.ended b.side.done p
+    half = hooked_half link ahead s b p so_far.down
 
     -- what was written
     abbrev text : IsWritten b.side.session.writing (so_far.down.passed.queued ++ p.closing)
@@ -147,9 +145,9 @@ module _ {L : Type 0} (state : L → LinkState) (start_at : L → LinkStart)
     -- the tasks that passed the filters are a front of those that were read
     front : IsFrontOf p.batched q.read
     front =
-        first_batched (filtering b) s link (state up.client.link) (start_at up.client.link) b.ended
+        first_batched (filtering s b) s link (state up.client.link) (start_at up.client.link) b.ended
         (hooked_state b) refl
-        (attempt_so_far state start_at allows link ahead s b up duplex p q so_far)
+        (attempt_so_far state start_at link ahead s b up duplex p q so_far)
 
     -- the tasks that came
     tasks_are : AreTasks s.sent.method s.asked (state up.client.link).ended q.got q.read
@@ -207,7 +205,7 @@ module _ {L : Type 0} (state : L → LinkState) (start_at : L → LinkStart)
 
     -- as the filter left it
     sends_whole : duplex.send_error ≡ None → Finishes (hooked_core duplex b up) p q
-        → SendsWhole (filtering b) s (passed_by p q) (state up.client.link).ended in_order
+        → SendsWhole (filtering s b) s (passed_by p q) (state up.client.link).ended in_order
     sends_whole none finishes = record {
       ended = finishes.request_ended none;
       taken = finishes.taken none;
@@ -253,7 +251,7 @@ module _ {L : Type 0} (state : L → LinkState) (start_at : L → LinkStart)
     -- how the request was sent, where the end of the response was read
     request_by : (error : Option Error) → duplex.send_error ≡ error
         → Finishes (hooked_core duplex b up) p q → list_any is_end q.read ≡ true
-        → (SendsWhole (filtering b) s (passed_by p q) (state up.client.link).ended in_order
+        → (SendsWhole (filtering s b) s (passed_by p q) (state up.client.link).ended in_order
         × ((state up.client.link).faults ≡ (start_at up.client.link).faults))
         ⊎ (((e : Error) × (lost : Bool)
         × PeerBlames (start_at up.client.link) (state up.client.link) s.sent s.asked
@@ -270,7 +268,7 @@ module _ {L : Type 0} (state : L → LinkState) (start_at : L → LinkStart)
     -- how it was sent, whether or not that was read
     sent_by : (error : Option Error) → duplex.send_error ≡ error
         → Finishes (hooked_core duplex b up) p q
-        → SendsWhole (filtering b) s (passed_by p q) (state up.client.link).ended in_order
+        → SendsWhole (filtering s b) s (passed_by p q) (state up.client.link).ended in_order
         ⊎ (((e : Error) × (read_failed : Bool)
         × IsWriteError (start_at up.client.link) (state up.client.link) read_failed e)
         ⊎ SendsShort s q.taken)
@@ -301,18 +299,18 @@ module _ {L : Type 0} (state : L → LinkState) (start_at : L → LinkStart)
     over_made ends has =
         stays_over (request_of s.head) place.NoHead so_far.down.passed.queued p.closing
         (ends_over (request_of s.head) so_far.down.passed.queued
-        (last_made (is_head_request s.head.method) b.stood (filtering b).calls
+        (last_made (is_head_request s.head.method) b.stood (filtering s b).calls
         (TakesOn b.stopped b.refused) p.batched so_far.down.passed.queued half.makes
         (last_in p.batched
         (front_last p.batched front.rest q.read front.joined tasks_are.ends_last)))
-        (ends_made (filtering b) s link (state up.client.link) (start_at up.client.link) b.ended
+        (ends_made (filtering s b) s link (state up.client.link) (start_at up.client.link) b.ended
         (hooked_state b) refl
-        (attempt_so_far state start_at allows link ahead s b up duplex p q so_far) ∙ ends)
+        (attempt_so_far state start_at link ahead s b up duplex p q so_far) ∙ ends)
         (front_pass (request_of s.head) so_far.down.passed.queued p.closing passes) has)
 
     -- the response was relayed whole, where its end passed the filters
     abbrev relayed_of : Finishes (hooked_core duplex b up) p q → list_any is_end p.batched ≡ true
-        → IsRelayed (filtering b) s (passed_by p q) (state up.client.link)
+        → IsRelayed (filtering s b) s (passed_by p q) (state up.client.link)
         (start_at up.client.link)
     relayed_of finishes ends =
         let all = in_order.are_said.whole (read_ends ends) in
@@ -330,7 +328,7 @@ module _ {L : Type 0} (state : L → LinkState) (start_at : L → LinkStart)
 
     -- and else it was over early
     abbrev early_of : Finishes (hooked_core duplex b up) p q → list_any is_end p.batched ≡ false
-        → EndsEarly (filtering b) s (passed_by p q) (state up.client.link) (start_at up.client.link)
+        → EndsEarly (filtering s b) s (passed_by p q) (state up.client.link) (start_at up.client.link)
     early_of finishes none = record {
       order = in_order;
       open_still = none;
@@ -370,7 +368,7 @@ module _ {L : Type 0} (state : L → LinkState) (start_at : L → LinkStart)
         }
 
     -- what a finished exchange leaves
-    leaves_of : Leaves (filtering b) s (passed_by p q) (state up.client.link)
+    leaves_of : Leaves (filtering s b) s (passed_by p q) (state up.client.link)
         (start_at up.client.link) in_order ahead (is_body_done b.side.session.reading)
         (keeps_link duplex up)
     leaves_of =
@@ -449,15 +447,15 @@ module _ {L : Type 0} (state : L → LinkState) (start_at : L → LinkStart)
 
     -- so it finishes
     pub finishes_so : Finishes (hooked_core duplex b up) p q
-        → ((r : IsRelayed (filtering b) s (passed_by p q) (state up.client.link)
+        → ((r : IsRelayed (filtering s b) s (passed_by p q) (state up.client.link)
         (start_at up.client.link))
-        × Leaves (filtering b) s (passed_by p q) (state up.client.link) (start_at up.client.link)
+        × Leaves (filtering s b) s (passed_by p q) (state up.client.link) (start_at up.client.link)
         r.order ahead (is_body_done b.side.session.reading) (keeps_link duplex up)
         × (b.at_first ≡ false
         → Keeps (state up.client.link) (start_at up.client.link) r.order (keeps_link duplex up)))
-        ⊎ ((r : EndsEarly (filtering b) s (passed_by p q) (state up.client.link)
+        ⊎ ((r : EndsEarly (filtering s b) s (passed_by p q) (state up.client.link)
         (start_at up.client.link))
-        × Leaves (filtering b) s (passed_by p q) (state up.client.link) (start_at up.client.link)
+        × Leaves (filtering s b) s (passed_by p q) (state up.client.link) (start_at up.client.link)
         r.order ahead (is_body_done b.side.session.reading) (keeps_link duplex up))
     finishes_so finishes = elim (decide (list_any is_end p.batched)) [
       | inl ends ↦ inl (

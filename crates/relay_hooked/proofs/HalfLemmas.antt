@@ -29,7 +29,6 @@ use Rattle.relay_session.specs.declared.task_text.Request.{Request}
 use Rattle.relay_core.specs.Moves.{EndsLast}
 use Rattle.relay_core.specs.Past.{Origin, DownPast, UpPast}
 use Rattle.relay_calls.specs.Log.{requests_in}
-use Rattle.relay_hooks.specs.Standing.{Standing}
 use Rattle.relay_sides.specs.Client.{HaveSome, IsClient}
 use Rattle.relay_sides.specs.Filtered.{is_head_request}
 use Rattle.relay_filters.specs.Hooked.{TakesOn, inside}
@@ -105,11 +104,11 @@ body_same (t ∷ tasks) = rw (bytes_same t, body_same tasks) refl
 -- ---- the calls
 
 -- the calls behind those before
-pub own_calls : (first : ℕ) (before own log : List LogEntry) → log ≡ before ++ own
-    → length before ≡ first → own ≡ calls_behind first log
-own_calls first before own log parts began =
-    sym (drop-append_seam before own) ∙ ap (λ (n : ℕ). drop n (before ++ own)) began
-    ∙ ap (λ (l : List LogEntry). drop first l) (sym parts)
+pub own_calls : (called own log : List LogEntry) → log ≡ called ++ own
+    → own ≡ calls_behind called log
+own_calls called own log parts =
+    sym (drop-append_seam called own)
+    ∙ ap (λ (l : List LogEntry). drop (length called) l) (sym parts)
 
 -- ---- the client's half
 
@@ -164,16 +163,16 @@ module _
 -- what the side behind filters holds, of which these tasks were queued that the filters made by its
 -- calls, is the client's half
 module _
-    (allows : Standing → LogEntry → Type 0) (link : LinkState) (ahead : List ℕ) (s : Origin)
-    (b : Behind) (p : DownPast) (h : HookedHolds allows link ahead s b p)
+    (link : LinkState) (ahead : List ℕ) (s : Origin) (b : Behind) (p : DownPast)
+    (h : HookedHolds link ahead s b p)
   where
     -- the half, by tasks with which the client's side holds too
     abbrev pub half_with : (came queued : List HttpTask)
-        → DownHolds link ahead b.side s (inside p came queued) → (before own : List LogEntry)
-        → b.seen.log ≡ before ++ own → length before ≡ b.first
+        → DownHolds link ahead b.side s (inside p came queued) → (own : List LogEntry)
+        → b.log ≡ s.called ++ own
         → MakesOf b.of_head b.stood own (TakesOn b.stopped b.refused) p.batched queued
-        → HookedHalf (filtering b) s link b.ended b.side.done p
-    half_with came queued holds before own parts began makes =
+        → HookedHalf (filtering s b) s link b.ended b.side.done p
+    half_with came queued holds own parts makes =
         let inner = inside p came queued in
         let session = b.side.session in
         let c = h.passed.holds.passed.client in
@@ -197,15 +196,14 @@ module _
               subst (λ (es : List LogEntry).
               PassesRequest b.at_first b.ended (requests_in es) (b.stopped ≡ None)
               (body_piece s p h.passed.came h.passed.queued link ahead session c) p.put)
-              (own_calls b.first h.passed.before h.passed.own b.seen.log h.passed.parts
-              h.passed.began)
+              (own_calls s.called h.passed.own b.log h.passed.parts)
               (passes_one s p h.passed.came h.passed.queued link ahead session c b.at_first b.ended
               (requests_in h.passed.own) (b.stopped ≡ None) p.put (h.passed.request refl));
           queued = queued;
           makes =
               subst (λ (es : List LogEntry).
               MakesOf (is_head_request s.head.method) b.stood es (TakesOn b.stopped b.refused)
-              p.batched queued) (own_calls b.first before own b.seen.log parts began)
+              p.batched queued) (own_calls s.called own b.log parts)
               (subst (λ (of_head : Bool).
               MakesOf of_head b.stood own (TakesOn b.stopped b.refused) p.batched queued)
               h.passed.is_of_head makes);
@@ -218,10 +216,10 @@ module _
         }
 
     -- the half, by the tasks that it names
-    abbrev pub hooked_half : HookedHalf (filtering b) s link b.ended b.side.done p
+    abbrev pub hooked_half : HookedHalf (filtering s b) s link b.ended b.side.done p
     hooked_half =
-        half_with h.passed.came h.passed.queued h.passed.holds h.passed.before h.passed.own
-        h.passed.parts h.passed.began h.passed.response
+        half_with h.passed.came h.passed.queued h.passed.holds h.passed.own h.passed.parts
+        h.passed.response
 
 -- ---- the upstream's half
 

@@ -9,6 +9,6 @@ pub mod NeutralLemmas
 pub mod StationLemmas
 pub mod SideLemmas
 pub mod TurnLemmas
-pub mod AppLemmas
+pub mod WalkLemmas
 pub mod BeginLemmas
 pub mod CauseLemmas

@@ -8,7 +8,6 @@
 --   order_so_far     so the order, from SoFar
 use Rattle.std.proofs.Common.{◌≡◌, ℕ, Bool, true, false, ◌⊎◌, List, [], ◌++◌, refl, sym, ◌∙◌, inl, inr, Option, None}
 use Rattle.std.specs.List.{list_any}
-use Rattle.relay_tasks.specs.declared.log.LogEntry.{LogEntry}
 use Rattle.relay_tasks.specs.declared.error.Error.{Error}
 use Rattle.relay_tasks.specs.Task.{is_end}
 use Rattle.relay_links.specs.Link.{LinkState, LinkStart}
@@ -22,7 +21,6 @@ use Rattle.relay_core.specs.Down.{DownState}
 use Rattle.relay_core.specs.Past.{Origin, DownPast, UpPast}
 use Rattle.relay_core.specs.Pipe.{is_failure}
 use Rattle.relay_core.specs.declared.duplex.Duplex.{Duplex}
-use Rattle.relay_hooks.specs.Standing.{Standing}
 use Rattle.relay_sides.specs.Client.{AllPass}
 use Rattle.relay_sides.specs.Filtered.{is_head_request}
 use Rattle.relay_filters.specs.Hooked.{TakesOn}
@@ -106,16 +104,15 @@ module _
 -- ---- so far
 
 module _ {L : Type 0} (state : L → LinkState) (start_at : L → LinkStart)
-    (allows : Standing → LogEntry → Type 0) (link : LinkState) (ahead : List ℕ) (s : Origin)
-    (b : Behind) (up : PeerSide L) (duplex : Duplex) (p : DownPast) (q : UpPast)
-    (so_far : GoesSoFar state start_at allows link ahead s b up duplex p q)
+    (link : LinkState) (ahead : List ℕ) (s : Origin) (b : Behind) (up : PeerSide L) (duplex : Duplex) (p : DownPast) (q : UpPast)
+    (so_far : GoesSoFar state start_at link ahead s b up duplex p q)
   where
     -- what passed between a client behind filters and a peer is an attempt, by the client's half
-    abbrev pub attempt_by : HookedHalf (filtering b) s link b.ended b.side.done p
-        → IsAttempt (HookedHalf (filtering b) s link b.ended b.side.done)
+    abbrev pub attempt_by : HookedHalf (filtering s b) s link b.ended b.side.done p
+        → IsAttempt (HookedHalf (filtering s b) s link b.ended b.side.done)
         (PeerHalf s (start_at up.client.link) (state up.client.link)) (hooked_state b)
     attempt_by half =
-        let a = attempt_of (HookedHolds allows link ahead s b) (PeerHolds state start_at s up)
+        let a = attempt_of (HookedHolds link ahead s b) (PeerHolds state start_at s up)
         (PeerSideBlames state start_at s up) (hooked_core duplex b up) p q so_far in
         record {
           p = p;
@@ -133,9 +130,9 @@ module _ {L : Type 0} (state : L → LinkState) (start_at : L → LinkStart)
 
     -- it is an attempt by the half that its side names
     abbrev pub attempt_so_far :
-        IsAttempt (HookedHalf (filtering b) s link b.ended b.side.done)
+        IsAttempt (HookedHalf (filtering s b) s link b.ended b.side.done)
         (PeerHalf s (start_at up.client.link) (state up.client.link)) (hooked_state b)
-    attempt_so_far = attempt_by (hooked_half allows link ahead s b p so_far.down)
+    attempt_so_far = attempt_by (hooked_half link ahead s b p so_far.down)
 
     -- it is told by both links
     pub told_so_far : AreTold state start_at s (passed_by p q) link (state up.client.link)
@@ -155,18 +152,18 @@ module _ {L : Type 0} (state : L → LinkState) (start_at : L → LinkStart)
         }
 
     -- it is in order, by the client's half and the first refusal of what was queued
-    abbrev pub order_by : (half : HookedHalf (filtering b) s link b.ended b.side.done p)
+    abbrev pub order_by : (half : HookedHalf (filtering s b) s link b.ended b.side.done p)
         → (refused : Option Error)
         → first_refusal (request_of s.head) place.NoHead (half.queued ++ p.closing) ≡ refused
-        → IsInOrderWith refused (filtering b) s (passed_by p q) (state up.client.link).ended
+        → IsInOrderWith refused (filtering s b) s (passed_by p q) (state up.client.link).ended
     order_by half refused passes =
-        order_of (filtering b) s link (state up.client.link) (start_at up.client.link) b.ended
+        order_of (filtering s b) s link (state up.client.link) (start_at up.client.link) b.ended
         (hooked_state b) refl (attempt_by half) refused passes
 
     -- so it is in order, where none of what the filters made is refused
     abbrev pub order_so_far : AllPass s (so_far.down.passed.queued ++ p.closing)
-        → IsInOrder (filtering b) s (passed_by p q) (state up.client.link).ended
-    order_so_far passes = order_by (hooked_half allows link ahead s b p so_far.down) None passes
+        → IsInOrder (filtering s b) s (passed_by p q) (state up.client.link).ended
+    order_so_far passes = order_by (hooked_half link ahead s b p so_far.down) None passes
 
     -- none of it is refused where the side told no error
     pub untold_passes : b.told.errors ≡ 0 → AllPass s (so_far.down.passed.queued ++ p.closing)

@@ -6,11 +6,10 @@
 --   order_at       and in order, where the side told no error
 --   order_one      and where it told one, up to the task that is refused so
 --   told_at        and told by both links
---   logged_at      the calls of the side walk behind those before them
 --   alive_so_far   where no hook wanted memory it holds what the laws speak of
 --   alive_reason   and so does the reason of an error
 use Rattle.std.proofs.Common.{◌≡◌, ℕ, Bool, true, false, ◌⊎◌, List, ◌++◌, Option, Some, None, inl, inr, refl, sym, subst, ◌∙◌}
-use Rattle.std.specs.Prelude.{if◌then◌else◌, is_some, length}
+use Rattle.std.specs.Prelude.{if◌then◌else◌, length, IsSome}
 use Rattle.relay_tasks.specs.declared.error.Error.{Error}
 use Rattle.relay_tasks.specs.declared.error.Fail.{Fail}
 use Rattle.relay_tasks.specs.declared.log.LogEntry.{LogEntry}
@@ -18,6 +17,7 @@ use Rattle.relay_links.specs.Link.{LinkState, LinkStart}
 use Rattle.relay_peer.specs.Peer as peer
 use Rattle.relay_peer.specs.declared.peer_side.PeerSide.{PeerSide}
 use Rattle.relay_session.specs.Asked.{request_of}
+use Rattle.relay_session.specs.Reading.{head_of}
 use Rattle.relay_session.specs.TaskWire.{first_refusal}
 use Rattle.relay_session.specs.declared.session.HttpSession.{HttpSession}
 use Rattle.relay_session.specs.declared.task_text.Place.TheVariants as place
@@ -27,88 +27,85 @@ use Rattle.relay_core.specs.Past.{Origin, DownPast, UpPast}
 use Rattle.relay_core.specs.Table.{core}
 use Rattle.relay_core.specs.declared.duplex.Duplex.{Duplex}
 use Rattle.relay_core.specs.declared.told.Told.{Told}
-use Rattle.relay_hooks.specs.Standing.{Standing}
 use Rattle.relay_calls.specs.Log.{requests_in}
 use Rattle.relay_sides.specs.Client.{AllPass, CannotEnd, ClientBlames, ClientRefuses}
-use Rattle.relay_filters.specs.Hooked.{BlamesOver, HookedPast, InnerPast, PastBy, PastOf, RefusesOver, is_lost, seen_by, shown_done, state_of_side}
-use Rattle.relay_filters.specs.declared.unhooked.Unhooked.{Unhooked}
+use Rattle.relay_filters.specs.Hooked.{BlamesOver, HookedPast, InnerPast, PastBy, PastOf, RefusesOver, is_lost, shown_done, state_of_side}
+use Rattle.relay_filters.specs.declared.rested.Rested.{Rested}
 use Rattle.relay_attempt.specs.Attempt.{IsAttempt}
 use Rattle.relay_attempt.specs.Exchange.{AreTold, DownHolds}
 use Rattle.relay_attempt.proofs.AttemptLemmas.{attempt_of, with_halves}
 use Rattle.relay_hooked.specs.Attempt.{HookedHalf, PeerHalf}
-use Rattle.relay_hooked.specs.Exchange.{AreLogged, SideHolds}
-use Rattle.relay_hooked.specs.Head.{behind, core_of, side_state}
+use Rattle.relay_hooked.specs.Exchange.{SideHolds}
+use Rattle.relay_hooked.specs.Head.{behind, core_of, filtering_of, side_state}
 use Rattle.relay_hooked.specs.Laws.{GoesSoFar, passed_by}
 use Rattle.relay_hooked.specs.Order.{IsInOrder, IsInOrderWith}
-use Rattle.relay_hooked.specs.Sides.{Behind, HookedBlames, HookedCannotEnd, HookedHolds, HookedRefuses, PeerHolds, PeerSideBlames, filtering, hooked_core, hooked_state}
+use Rattle.relay_hooked.specs.Sides.{Behind, HookedBlames, HookedCannotEnd, HookedHolds, HookedRefuses, PeerHolds, PeerSideBlames, hooked_core, hooked_state}
 use Rattle.relay_hooked.proofs.HalfLemmas.{hooked_half, peer_half}
 use Rattle.relay_hooked.proofs.OrderLemmas.{order_of}
 
 -- what holds of a side over one past of its inner side holds over another, where that was put and
--- was given the same
-abbrev over_other : (inner other : DownPast → Type 0) (allows : Standing → LogEntry → Type 0)
-    (method : List ℕ) (seen : _) (mark first : ℕ)
+-- was given the same, and over another session of a client whose head was read
+abbrev over_other : (inner other : DownPast → Type 0) (method : List ℕ)
+    (client before : HttpSession) (called log : List LogEntry)
     (of_head at_first ended upgraded refused stood : Bool) (stopped : Option Fail)
     (told inner_told : Told) (p : DownPast)
-    (h : HookedPast inner allows method seen mark first of_head at_first ended upgraded refused
-    stood stopped told inner_told p)
+    (h : HookedPast inner method client called log of_head at_first ended upgraded refused stood
+    stopped told inner_told p)
     → other (record p { put = h.passed.came; batched = h.passed.queued })
-    → HookedPast other allows method seen mark first of_head at_first ended upgraded refused stood
+    → IsSome (head_of before.reading)
+    → HookedPast other method before called log of_head at_first ended upgraded refused stood
     stopped told inner_told p
-over_other inner other allows method seen mark first of_head at_first ended upgraded refused stood
-    stopped told inner_told p h holds = record {
+over_other inner other method client before called log of_head at_first ended upgraded refused stood
+    stopped told inner_told p h holds has_head = record {
       passed = record {
         came = h.passed.came;
         queued = h.passed.queued;
         holds = holds;
-        before = h.passed.before;
         own = h.passed.own;
         parts = h.passed.parts;
-        began = h.passed.began;
-        logged = h.passed.logged;
         request = h.passed.request;
         is_of_head = h.passed.is_of_head;
         response = h.passed.response;
-        head = h.passed.head;
+        head = λ goes_on. has_head;
         told = h.passed.told;
       };
       quiet = h.quiet;
       calls = h.calls;
     }
 
-module _ {M C L : Type 0} (state : L → LinkState) (start_at : L → LinkStart)
-    (allows : Standing → LogEntry → Type 0) (mark_of : C → ℕ) (s : Origin) (link : LinkState)
-    (ahead : List ℕ) (u : Unhooked M C)
+module _ {L : Type 0} (state : L → LinkState) (start_at : L → LinkStart) (s : Origin)
+    (link : LinkState) (ahead : List ℕ) (log : List LogEntry) (u : Rested)
   where
     -- the side, its session being lost or not
     abbrev HoldsAt : Bool → DownPast → Type 0
     HoldsAt lost p =
-        HookedPast (PastOf lost (PastBy s link ahead u.inner) u.inner.session) allows s.head.method
-        (seen_by u.session.seen u.inner.session) (mark_of u.ctx) u.first u.of_head u.at_first
-        u.ended false u.refused u.stood u.stopped u.told u.inner.told p
+        HookedPast (PastOf lost (PastBy s link ahead u.inner) u.inner.session) s.head.method
+        u.inner.session s.called log u.of_head u.at_first u.ended false u.refused u.stood u.stopped
+        u.told u.inner.told p
 
     -- as the laws speak of it, over the session that stood before
     abbrev before_it : HttpSession → Behind
-    before_it session = record (behind mark_of u) { side = record u.inner { session = session } }
+    before_it session = record (behind log false u) { side = record u.inner { session = session } }
 
     -- over that session it holds what they speak of
     abbrev held_before : (p : DownPast) (h : HoldsAt true p)
-        → HookedHolds allows link ahead s (before_it h.passed.holds.0) p
+        → HookedHolds link ahead s (before_it h.passed.holds.0) p
     held_before p h =
         over_other (PastOf true (PastBy s link ahead u.inner) u.inner.session)
-        (DownHolds link ahead (record u.inner { session = h.passed.holds.0 }) s) allows s.head.method
-        (seen_by u.session.seen u.inner.session) (mark_of u.ctx) u.first u.of_head u.at_first
-        u.ended false u.refused u.stood u.stopped u.told u.inner.told p h h.passed.holds.1
+        (DownHolds link ahead (record u.inner { session = h.passed.holds.0 }) s) s.head.method
+        u.inner.session h.passed.holds.0 s.called log u.of_head u.at_first u.ended false u.refused
+        u.stood u.stopped u.told u.inner.told p h h.passed.holds.1
+        h.passed.holds.1.passed.client.has_head
 
     -- so it is the client's half
     abbrev half_at : (lost : Bool) (p : DownPast) → HoldsAt lost p
-        → HookedHalf (filtering (behind mark_of u)) s link u.ended u.inner.done p
-    half_at false p h = hooked_half allows link ahead s (behind mark_of u) p h
+        → HookedHalf (filtering_of s log u) s link u.ended u.inner.done p
+    half_at false p h = hooked_half link ahead s (behind log false u) p h
     half_at true p h =
-        hooked_half allows link ahead s (before_it h.passed.holds.0) p (held_before p h)
+        hooked_half link ahead s (before_it h.passed.holds.0) p (held_before p h)
 
-    abbrev pub half_of : (p : DownPast) → SideHolds allows mark_of link ahead s u p
-        → HookedHalf (filtering (behind mark_of u)) s link u.ended u.inner.done p
+    abbrev pub half_of : (p : DownPast) → SideHolds link ahead log s u p
+        → HookedHalf (filtering_of s log u) s link u.ended u.inner.done p
     half_of p h = half_at (is_lost u.stopped) p h
 
     -- none of what the filters made is refused, where the inner side told no error
@@ -126,58 +123,47 @@ module _ {M C L : Type 0} (state : L → LinkState) (start_at : L → LinkStart)
     told_one false p h one = h.passed.holds.tasks.one one
     told_one true p h one = h.passed.holds.1.tasks.one one
 
-    -- the calls of the side walk, behind those that stood in the log before
-    pub logged_at : (p : DownPast) → SideHolds allows mark_of link ahead s u p
-        → AreLogged allows mark_of u
-    logged_at p h = record {
-      before = h.passed.before;
-      own = h.passed.own;
-      parts = h.passed.parts;
-      began = h.passed.began;
-      logged = h.passed.logged;
-    }
-
     module _ (up : PeerSide L) (duplex : Duplex) (p : DownPast) (q : UpPast)
-        (so_far : SoFar (SideHolds allows mark_of link ahead s u)
-        (PeerHolds state start_at s up) (PeerSideBlames state start_at s up) (core_of duplex u up) p
+        (so_far : SoFar (SideHolds link ahead log s u)
+        (PeerHolds state start_at s up) (PeerSideBlames state start_at s up) (core_of log duplex u up) p
         q)
       where
         -- what passed is an attempt
         abbrev pub attempt_at :
-            IsAttempt (HookedHalf (filtering (behind mark_of u)) s link u.ended u.inner.done)
-            (PeerHalf s (start_at up.client.link) (state up.client.link)) (side_state u)
+            IsAttempt (HookedHalf (filtering_of s log u) s link u.ended u.inner.done)
+            (PeerHalf s (start_at up.client.link) (state up.client.link)) (side_state log u)
         attempt_at =
-            with_halves (SideHolds allows mark_of link ahead s u)
-            (HookedHalf (filtering (behind mark_of u)) s link u.ended u.inner.done)
+            with_halves (SideHolds link ahead log s u)
+            (HookedHalf (filtering_of s log u) s link u.ended u.inner.done)
             (PeerHolds state start_at s up)
-            (PeerHalf s (start_at up.client.link) (state up.client.link)) (side_state u) half_of
+            (PeerHalf s (start_at up.client.link) (state up.client.link)) (side_state log u) half_of
             (λ r h. peer_half s (start_at up.client.link) (state up.client.link) up r h)
-            (attempt_of (SideHolds allows mark_of link ahead s u)
+            (attempt_of (SideHolds link ahead log s u)
             (PeerHolds state start_at s up) (PeerSideBlames state start_at s up)
-            (core_of duplex u up) p q so_far)
+            (core_of log duplex u up) p q so_far)
 
         -- in order, by the first refusal of what was queued
         order_with : (refused : Option Error)
             → first_refusal (request_of s.head) place.NoHead
             ((half_of p so_far.down).queued ++ p.closing) ≡ refused
-            → IsInOrderWith refused (filtering (behind mark_of u)) s (passed_by p q)
+            → IsInOrderWith refused (filtering_of s log u) s (passed_by p q)
             (state up.client.link).ended
         order_with refused passes =
-            order_of (filtering (behind mark_of u)) s link (state up.client.link)
-            (start_at up.client.link) u.ended (side_state u) refl attempt_at refused passes
+            order_of (filtering_of s log u) s link (state up.client.link)
+            (start_at up.client.link) u.ended (side_state log u) refl attempt_at refused passes
 
         -- where the side told no error
         pub order_at : u.told.errors ≡ 0
-            → IsInOrder (filtering (behind mark_of u)) s (passed_by p q) (state up.client.link).ended
+            → IsInOrder (filtering_of s log u) s (passed_by p q) (state up.client.link).ended
         order_at untold =
             order_with None
             (passes_at (is_lost u.stopped) p so_far.down (so_far.down.quiet.none untold).0)
 
         -- where it told one, up to the task that is refused so
         pub order_one : (e : Error) → u.told.errors ≡ 1 → u.told.last ≡ Some e
-            → IsInOrder (filtering (behind mark_of u)) s (passed_by p q) (state up.client.link).ended
+            → IsInOrder (filtering_of s log u) s (passed_by p q) (state up.client.link).ended
             ⊎ ((why : Error) × (u.told.errors ≡ 1) × (u.told.last ≡ Some why)
-            × IsInOrderWith (Some why) (filtering (behind mark_of u)) s (passed_by p q)
+            × IsInOrderWith (Some why) (filtering_of s log u) s (passed_by p q)
             (state up.client.link).ended)
         order_one e one last = elim (so_far.down.quiet.one one) [
           | inl none ↦ inl (order_with None
@@ -218,47 +204,47 @@ module _ {M C L : Type 0} (state : L → LinkState) (start_at : L → LinkStart)
           body_done = shown_done u.stopped u.was.body_done (state_of_side u.inner).body_done;
           pending = if lost then u.was.pending else (state_of_side u.inner).pending;
           told = u.told;
-          calls = length (requests_in u.session.seen.log);
+          calls = length (requests_in log);
         }
 
         -- where no hook wanted memory it holds what the laws speak of
-        pub alive_so_far : is_lost u.stopped ≡ false
-            → GoesSoFar state start_at allows link ahead s (behind mark_of u) up duplex p q
-        alive_so_far alive =
+        pub alive_so_far : (stand : Bool) → is_lost u.stopped ≡ false
+            → GoesSoFar state start_at link ahead s (behind log stand u) up duplex p q
+        alive_so_far stand alive =
             subst (λ (lost : Bool).
             SoFar (HoldsAt lost) (PeerHolds state start_at s up) (PeerSideBlames state start_at s up)
             (core duplex (state_at lost) (peer.state_of up)) p q) alive so_far
 
         -- how both halves finished
-        pub alive_finishes : is_lost u.stopped ≡ false → Finishes (core_of duplex u up) p q
-            → Finishes (hooked_core duplex (behind mark_of u) up) p q
-        alive_finishes alive finishes =
+        pub alive_finishes : (stand : Bool) → is_lost u.stopped ≡ false → Finishes (core_of log duplex u up) p q
+            → Finishes (hooked_core duplex (behind log stand u) up) p q
+        alive_finishes stand alive finishes =
             subst (λ (lost : Bool). Finishes (core duplex (state_at lost) (peer.state_of up)) p q)
             alive finishes
 
         -- and so does the reason of an error
-        pub alive_reason : (e : Error) → is_lost u.stopped ≡ false
+        pub alive_reason : (stand : Bool) (e : Error) → is_lost u.stopped ≡ false
             → HasReason
             (λ r why. BlamesOver (InnerPast u.stopped s link ahead u.inner)
             (λ i. ClientBlames s i link) u.stopped r why)
             (λ r left why. RefusesOver (InnerPast u.stopped s link ahead u.inner)
-            (λ i. ClientRefuses s i link u.inner.told) u.of_head u.stood (is_some u.session.modules)
-            u.refused u.stopped u.first u.session.seen.log r left why)
+            (λ i. ClientRefuses s i link u.inner.told) u.of_head u.stood stand u.refused
+            u.stopped s.called log r left why)
             (λ r why. BlamesOver (InnerPast u.stopped s link ahead u.inner)
             (λ i x. ClientBlames s i link x ⊎ CannotEnd s i u.inner.told x) u.stopped r why)
-            (PeerSideBlames state start_at s up) (side_state u) p q e
-            → HasReason (HookedBlames link ahead s (behind mark_of u))
-            (HookedRefuses link ahead s (behind mark_of u))
-            (HookedCannotEnd link ahead s (behind mark_of u)) (PeerSideBlames state start_at s up)
-            (hooked_state (behind mark_of u)) p q e
-        alive_reason e alive reason =
+            (PeerSideBlames state start_at s up) (side_state log u) p q e
+            → HasReason (HookedBlames link ahead s (behind log stand u))
+            (HookedRefuses link ahead s (behind log stand u))
+            (HookedCannotEnd link ahead s (behind log stand u)) (PeerSideBlames state start_at s up)
+            (hooked_state (behind log stand u)) p q e
+        alive_reason stand e alive reason =
             subst (λ (lost : Bool).
             HasReason
             (λ r why. BlamesOver (PastOf lost (PastBy s link ahead u.inner) u.inner.session)
             (λ i. ClientBlames s i link) u.stopped r why)
             (λ r left why. RefusesOver (PastOf lost (PastBy s link ahead u.inner) u.inner.session)
-            (λ i. ClientRefuses s i link u.inner.told) u.of_head u.stood (is_some u.session.modules)
-            u.refused u.stopped u.first u.session.seen.log r left why)
+            (λ i. ClientRefuses s i link u.inner.told) u.of_head u.stood stand u.refused
+            u.stopped s.called log r left why)
             (λ r why. BlamesOver (PastOf lost (PastBy s link ahead u.inner) u.inner.session)
             (λ i x. ClientBlames s i link x ⊎ CannotEnd s i u.inner.told x) u.stopped r why)
             (PeerSideBlames state start_at s up) (state_at lost) p q e) alive reason

@@ -1,19 +1,24 @@
 -- What a turn makes of an exchange behind filters, by what it makes of one over any two sides.
 --
---   under_way   an exchange that is under way between both sides is, over all that passed
---   turned      what a turn between both sides is, over all that passed
+--   from_settled   an answer that is no failure is the duplex's
+--   asks_settled   how a turn asked both links, by its answer
+--   under_way      an exchange that is under way between both sides is, over all that passed
+--   turned         what a turn between both sides is, over all that passed
 use Rattle.std.proofs.Common.{◌≡◌, ℕ, Bool, true, false, ◌⊎◌, List, Some, inl, inr, refl, sym, ap, subst, ◌∙◌}
-use Rattle.std.specs.Prelude.{◌&&◌, is_some}
+use Rattle.std.specs.Prelude.{◌&&◌}
 use Rattle.relay_tasks.specs.declared.error.Error.{Error}
 use Rattle.relay_tasks.specs.declared.error.Fail.TheVariants as fail
 use Rattle.relay_tasks.specs.declared.log.LogEntry.{LogEntry}
+use Rattle.relay_tasks.specs.declared.took.Pause.TheVariants as pause
 use Rattle.relay_links.specs.Count.{up}
 use Rattle.relay_links.specs.Link.{LinkState, LinkStart}
 use Rattle.relay_peer.specs.H1Client.{may_keep_client}
 use Rattle.relay_session.specs.Reading.{is_body_done}
+use Rattle.relay_core.specs.Causes.{says_failed}
 use Rattle.relay_core.specs.Moves.{Finishes}
 use Rattle.relay_core.specs.Past.{Origin, DownPast, UpPast}
 use Rattle.relay_core.specs.Table.{State}
+use Rattle.relay_core.specs.Uses.{Asks}
 use Rattle.relay_core.specs.declared.step.Step.{Step}
 use Rattle.relay_core.specs.declared.step.Step.TheVariants as step
 use Rattle.relay_core.proofs.BoolLemmas.{decide}
@@ -21,12 +26,11 @@ use Rattle.relay_exchange.specs.Exchange.{may_keep_at}
 use Rattle.relay_exchange.specs.Exchange as over
 use Rattle.relay_exchange.specs.declared.exchange.Stage.{Stage}
 use Rattle.relay_exchange.specs.declared.exchange.Stage.TheVariants as stage
-use Rattle.relay_hooks.specs.Standing.{Standing}
 use Rattle.relay_sides.specs.Client.{CannotEnd, ClientBlames, ClientRefuses}
 use Rattle.relay_filters.specs.Hooked.{BlamesOver, InnerPast, RefusesOver, inside, is_lost}
 use Rattle.relay_attempt.proofs.OrderLemmas.{answers_own}
 use Rattle.relay_hooked.specs.Exchange.{ComesTo, IsFinished, IsOverEarly, IsUnderWay, SideHolds, Turns}
-use Rattle.relay_hooked.specs.Head.{behind, core_of, link_of, may_keep}
+use Rattle.relay_hooked.specs.Head.{behind, core_of, filtering_of, link_of, may_keep}
 use Rattle.relay_hooked.specs.Laws.{GoesSoFar, passed_by}
 use Rattle.relay_hooked.specs.Order.{IsInOrder, Keeps, Leaves}
 use Rattle.relay_hooked.specs.Sides.{PeerHolds, PeerSideBlames, TellsAlone, filtering, keeps_link}
@@ -34,25 +38,57 @@ use Rattle.relay_hooked.specs.declared.exchange.HookedExchange.{HookedExchange}
 use Rattle.relay_hooked.proofs.FailLemmas.{fails_here}
 use Rattle.relay_hooked.proofs.FinishLemmas.{finishes_so}
 use Rattle.relay_hooked.proofs.OrderLemmas.{untold_passes}
-use Rattle.relay_hooked.proofs.SideLemmas.{alive_finishes, alive_reason, alive_so_far, logged_at, order_at, order_one, told_at}
+use Rattle.relay_hooked.proofs.SideLemmas.{alive_finishes, alive_reason, alive_so_far, order_at, order_one, told_at}
 
-module _ {M C L : Type 0} (state : L → LinkState) (start_at : L → LinkStart)
-    (allows : Standing → LogEntry → Type 0) (mark_of : C → ℕ) (s : Origin) (link : LinkState)
-    (ahead : List ℕ) (x : HookedExchange M C L)
+-- ---- an answer
+
+-- an answer that is no failure is the duplex's
+pub from_settled : (result answer wanted : Step)
+    → (result ≡ answer) ⊎ (result ≡ step.Failed fail.OutOfMemory) → says_failed wanted ≡ false
+    → result ≡ wanted → answer ≡ wanted
+from_settled result answer wanted (inl same) unfailed is = sym same ∙ is
+from_settled result answer wanted (inr lost) unfailed is =
+    let wrong : true ≡ false = ap says_failed (sym lost ∙ is) ∙ unfailed in absurd (cc)
+
+-- a turn that ends out of memory asked as it did
+asked_before : (answer : Step) (client client' upstream upstream' : LinkState)
+    → Asks answer client client' upstream upstream'
+    → Asks (step.Failed fail.OutOfMemory) client client' upstream upstream'
+asked_before step.Moved client client' upstream upstream' asks = asks
+asked_before (step.Waited pause.NotReady) client client' upstream upstream' asks = inl asks
+asked_before (step.Waited pause.Silent) client client' upstream upstream' asks = inr asks
+asked_before step.Finished client client' upstream upstream' asks = inr asks
+asked_before (step.Failed why) client client' upstream upstream' asks = asks
+
+-- how a turn asked both links, by its answer
+pub asks_settled : (result answer : Step) (client client' upstream upstream' : LinkState)
+    → (result ≡ answer) ⊎ (result ≡ step.Failed fail.OutOfMemory)
+    → Asks answer client client' upstream upstream'
+    → Asks result client client' upstream upstream'
+asks_settled result answer client client' upstream upstream' (inl same) asks =
+    subst (λ (r : Step). Asks r client client' upstream upstream') (sym same) asks
+asks_settled result answer client client' upstream upstream' (inr lost) asks =
+    subst (λ (r : Step). Asks r client client' upstream upstream') (sym lost)
+    (asked_before answer client client' upstream upstream' asks)
+
+-- ---- a turn
+
+module _ {L : Type 0} (state : L → LinkState) (start_at : L → LinkStart) (s : Origin)
+    (link : LinkState) (ahead : List ℕ) (log : List LogEntry) (stand : Bool) (x : HookedExchange L)
   where
     -- the exchange between both sides
     abbrev IsOver : DownPast → UpPast → Type 0
     IsOver p q =
-        over.IsUnderWay (SideHolds allows mark_of link ahead s x.exchange.down)
+        over.IsUnderWay (SideHolds link ahead log s x.exchange.down)
         (PeerHolds state start_at s x.exchange.up) (PeerSideBlames state start_at s x.exchange.up)
-        (core_of x.exchange.duplex x.exchange.down x.exchange.up) p q
+        (core_of log x.exchange.duplex x.exchange.down x.exchange.up) p q
 
     -- one that is under way is, over all that passed
     pub under_way : (p : DownPast) (q : UpPast) → IsOver p q
         → is_lost x.exchange.down.stopped ≡ false → x.exchange.down.told.errors ≡ 0
-        → IsUnderWay state start_at allows mark_of s (passed_by p q) link ahead x
+        → IsUnderWay state start_at s (passed_by p q) link ahead log x
     under_way p q under alive untold = record {
-      order = order_at state start_at allows mark_of s link ahead x.exchange.down x.exchange.up
+      order = order_at state start_at s link ahead log x.exchange.down x.exchange.up
           x.exchange.duplex p q under.so_far untold;
       alive = alive;
       untold = untold;
@@ -77,74 +113,74 @@ module _ {M C L : Type 0} (state : L → LinkState) (start_at : L → LinkStart)
     module _
         (before : DownPast) (up_before : UpPast) (was : State) (answer result : Step)
         (bodies : answer ≡ step.Finished → x.exchange.stage ≡ stage.Bodies)
-        (went : over.Turns (SideHolds allows mark_of link ahead s x.exchange.down)
+        (went : over.Turns (SideHolds link ahead log s x.exchange.down)
         (λ r why. BlamesOver (InnerPast x.exchange.down.stopped s link ahead x.exchange.down.inner)
         (λ i. ClientBlames s i link) x.exchange.down.stopped r why)
         (λ r left why. RefusesOver
         (InnerPast x.exchange.down.stopped s link ahead x.exchange.down.inner)
         (λ i. ClientRefuses s i link x.exchange.down.inner.told) x.exchange.down.of_head
-        x.exchange.down.stood (is_some x.exchange.down.session.modules) x.exchange.down.refused
-        x.exchange.down.stopped x.exchange.down.first x.exchange.down.session.seen.log r left why)
+        x.exchange.down.stood stand x.exchange.down.refused
+        x.exchange.down.stopped s.called log r left why)
         (λ r why. BlamesOver (InnerPast x.exchange.down.stopped s link ahead x.exchange.down.inner)
         (λ i e. ClientBlames s i link e ⊎ CannotEnd s i x.exchange.down.inner.told e)
         x.exchange.down.stopped r why)
         (PeerHolds state start_at s x.exchange.up) (PeerSideBlames state start_at s x.exchange.up)
-        before up_before was (core_of x.exchange.duplex x.exchange.down x.exchange.up) answer)
+        before up_before was (core_of log x.exchange.duplex x.exchange.down x.exchange.up) answer)
         (untold : was.down.told.errors ≡ 0)
         (tells : over.TellsOn was.down.told x.exchange.down.told answer)
       where
         -- a turn that goes on
         on : over.GoesOn x.exchange.duplex → x.exchange.down.told.errors ≡ was.down.told.errors
             → is_lost x.exchange.down.stopped ≡ false
-            → IsUnderWay state start_at allows mark_of s (passed_by went.p went.q) link ahead x
+            → IsUnderWay state start_at s (passed_by went.p went.q) link ahead log x
         on goes_on same alive =
             under_way went.p went.q (record { so_far = went.so_far; goes_on = goes_on }) alive
             (same ∙ untold)
 
         -- in order, where the side told no error
         in_order : x.exchange.down.told.errors ≡ was.down.told.errors
-            → IsInOrder (filtering (behind mark_of x.exchange.down)) s (passed_by went.p went.q)
+            → IsInOrder (filtering_of s log x.exchange.down) s (passed_by went.p went.q)
             (state (link_of x)).ended
         in_order same =
-            order_at state start_at allows mark_of s link ahead x.exchange.down x.exchange.up
+            order_at state start_at s link ahead log x.exchange.down x.exchange.up
             x.exchange.duplex went.p went.q went.so_far (same ∙ untold)
 
         -- as the laws speak of it, where no hook wanted memory
         so_far : is_lost x.exchange.down.stopped ≡ false
-            → GoesSoFar state start_at allows link ahead s (behind mark_of x.exchange.down)
+            → GoesSoFar state start_at link ahead s (behind log stand x.exchange.down)
             x.exchange.up x.exchange.duplex went.p went.q
         so_far alive =
-            alive_so_far state start_at allows mark_of s link ahead x.exchange.down x.exchange.up
-            x.exchange.duplex went.p went.q went.so_far alive
+            alive_so_far state start_at s link ahead log x.exchange.down x.exchange.up
+            x.exchange.duplex went.p went.q went.so_far stand alive
 
         -- one that finishes
         finished : is_lost x.exchange.down.stopped ≡ false → x.exchange.stage ≡ stage.Bodies
             → x.exchange.down.told.errors ≡ 0
-            → Finishes (core_of x.exchange.duplex x.exchange.down x.exchange.up) went.p went.q
-            → IsFinished state start_at allows mark_of s (passed_by went.p went.q) ahead x
-            ⊎ IsOverEarly state start_at allows mark_of s (passed_by went.p went.q) ahead x
+            → Finishes (core_of log x.exchange.duplex x.exchange.down x.exchange.up) went.p went.q
+            → IsFinished state start_at s (passed_by went.p went.q) ahead log x
+            ⊎ IsOverEarly state start_at s (passed_by went.p went.q) ahead log x
         finished alive flows quiet finishes =
             let side = x.exchange.down in
             let session = side.inner.session in
-            let b = behind mark_of side in
+            let b = behind log stand side in
             let link_state = state (link_of x) in
             let start = start_at (link_of x) in
             let g = so_far alive in
             let passed = passed_by went.p went.q in
             let answers = answers_own s (inside went.p g.down.passed.came g.down.passed.queued) link
             ahead session g.down.passed.holds.passed.client in
-            elim (finishes_so state start_at allows link ahead s b x.exchange.up x.exchange.duplex
+            elim (finishes_so state start_at link ahead s b x.exchange.up x.exchange.duplex
             went.p went.q g
-            (untold_passes state start_at allows link ahead s b x.exchange.up x.exchange.duplex
+            (untold_passes state start_at link ahead s b x.exchange.up x.exchange.duplex
             went.p went.q g quiet)
-            (alive_finishes state start_at allows mark_of s link ahead side x.exchange.up
-            x.exchange.duplex went.p went.q went.so_far alive finishes)) [
+            (alive_finishes state start_at s link ahead log side x.exchange.up
+            x.exchange.duplex went.p went.q went.so_far stand alive finishes)) [
               | inl r ↦ inl (record {
                 relayed = r.0;
                 answers = answers;
                 leaves =
                     subst (λ (keeps : Bool).
-                    Leaves (filtering b) s passed link_state start r.0.order ahead
+                    Leaves (filtering s b) s passed link_state start r.0.order ahead
                     (is_body_done session.reading) keeps) (keeps_same flows) r.1;
                 keeps = λ fresh.
                     subst (λ (keeps : Bool). Keeps link_state start r.0.order keeps)
@@ -155,7 +191,7 @@ module _ {M C L : Type 0} (state : L → LinkState) (start_at : L → LinkStart)
                 answers = answers;
                 leaves =
                     subst (λ (keeps : Bool).
-                    Leaves (filtering b) s passed link_state start r.0.order ahead
+                    Leaves (filtering s b) s passed link_state start r.0.order ahead
                     (is_body_done session.reading) keeps) (keeps_same flows) r.1;
               })
             ]
@@ -164,13 +200,13 @@ module _ {M C L : Type 0} (state : L → LinkState) (start_at : L → LinkStart)
         alone : (e : Error) → (x.exchange.down.told.errors ≡ was.down.told.errors)
             ⊎ ((x.exchange.down.told.errors ≡ up was.down.told.errors)
             × (x.exchange.down.told.last ≡ Some e))
-            → TellsAlone (behind mark_of x.exchange.down) e
+            → TellsAlone (behind log stand x.exchange.down) e
         alone e (inl same) = inl (same ∙ untold)
         alone e (inr more) = inr (more.0 ∙ ap up untold, more.1)
 
         -- out of memory it is in order, or up to the task that is refused
         free : (answer : Step) → over.TellsOn was.down.told x.exchange.down.told answer
-            → ComesTo state start_at allows mark_of s (passed_by went.p went.q) link ahead x
+            → ComesTo state start_at s (passed_by went.p went.q) link ahead log x
             (step.Failed fail.OutOfMemory)
         free step.Moved same = inl (in_order same)
         free (step.Waited pause) same = inl (in_order same)
@@ -178,7 +214,7 @@ module _ {M C L : Type 0} (state : L → LinkState) (start_at : L → LinkStart)
         free (step.Failed fail.OutOfMemory) same = inl (in_order same)
         free (step.Failed (fail.Error e)) (inl same) = inl (in_order same)
         free (step.Failed (fail.Error e)) (inr more) =
-            order_one state start_at allows mark_of s link ahead x.exchange.down x.exchange.up
+            order_one state start_at s link ahead log x.exchange.down x.exchange.up
             x.exchange.duplex went.p went.q went.so_far e (more.0 ∙ ap up untold) more.1
 
         -- what it came to, where no hook wanted memory, by its answer
@@ -191,47 +227,44 @@ module _ {M C L : Type 0} (state : L → LinkState) (start_at : L → LinkStart)
             (λ r left why. RefusesOver
             (InnerPast x.exchange.down.stopped s link ahead x.exchange.down.inner)
             (λ i. ClientRefuses s i link x.exchange.down.inner.told) x.exchange.down.of_head
-            x.exchange.down.stood (is_some x.exchange.down.session.modules)
-            x.exchange.down.refused x.exchange.down.stopped x.exchange.down.first
-            x.exchange.down.session.seen.log r left why)
+            x.exchange.down.stood stand
+            x.exchange.down.refused x.exchange.down.stopped s.called log r left why)
             (λ r why. BlamesOver
             (InnerPast x.exchange.down.stopped s link ahead x.exchange.down.inner)
             (λ i e. ClientBlames s i link e ⊎ CannotEnd s i x.exchange.down.inner.told e)
             x.exchange.down.stopped r why)
             (PeerSideBlames state start_at s x.exchange.up)
-            (core_of x.exchange.duplex x.exchange.down x.exchange.up) went.p went.q answer
+            (core_of log x.exchange.duplex x.exchange.down x.exchange.up) went.p went.q answer
             → over.TellsOn was.down.told x.exchange.down.told answer
-            → ComesTo state start_at allows mark_of s (passed_by went.p went.q) link ahead x answer
+            → ComesTo state start_at s (passed_by went.p went.q) link ahead log x answer
         comes alive step.Moved flows goes_on same = on goes_on same alive
         comes alive (step.Waited pause) flows goes_on same = on goes_on same alive
         comes alive step.Finished flows finishes same =
             finished alive (flows refl) (same ∙ untold) (finishes refl)
         comes alive (step.Failed (fail.Error e)) flows why tells =
-            fails_here state start_at allows link ahead s (behind mark_of x.exchange.down)
+            fails_here state start_at link ahead s (behind log stand x.exchange.down)
             x.exchange.up x.exchange.duplex went.p went.q e (so_far alive) (alone e tells)
-            (alive_reason state start_at allows mark_of s link ahead x.exchange.down x.exchange.up
-            x.exchange.duplex went.p went.q went.so_far e alive why)
+            (alive_reason state start_at s link ahead log x.exchange.down x.exchange.up
+            x.exchange.duplex went.p went.q went.so_far stand e alive why)
         comes alive (step.Failed fail.OutOfMemory) flows unsaid same = inl (in_order same)
 
         -- what the turn is, over all that passed
         pub turned : (is_lost x.exchange.down.stopped ≡ true
             → result ≡ step.Failed fail.OutOfMemory)
             → (is_lost x.exchange.down.stopped ≡ false → result ≡ answer)
-            → Turns state start_at allows mark_of s link ahead x result
+            → Turns state start_at s link ahead log x result
         turned lost alive = record {
           passed = passed_by went.p went.q;
-          logged = logged_at state start_at allows mark_of s link ahead x.exchange.down went.p
-              went.so_far.down;
-          told = told_at state start_at allows mark_of s link ahead x.exchange.down x.exchange.up
+          told = told_at state start_at s link ahead log x.exchange.down x.exchange.up
               x.exchange.duplex went.p went.q went.so_far;
           comes_to = elim (decide (is_lost x.exchange.down.stopped)) [
             | inl gone ↦ subst
                 (λ (r : Step).
-                ComesTo state start_at allows mark_of s (passed_by went.p went.q) link ahead x r)
+                ComesTo state start_at s (passed_by went.p went.q) link ahead log x r)
                 (sym (lost gone)) (free answer tells)
             | inr kept ↦ subst
                 (λ (r : Step).
-                ComesTo state start_at allows mark_of s (passed_by went.p went.q) link ahead x r)
+                ComesTo state start_at s (passed_by went.p went.q) link ahead log x r)
                 (sym (alive kept)) (comes kept answer bodies went.comes_to tells)
           ];
         }

@@ -20,8 +20,8 @@ use Rattle.relay_hooks.specs.Standing.{Standing}
 use Rattle.relay_sides.specs.Client.{put_again}
 use Rattle.relay_filters.specs.Hooked.{seen_by}
 use Rattle.relay_filters.specs.Request.{Filtered, Refused}
-use Rattle.relay_filters.specs.declared.unhooked.Unhooked.{Unhooked}
-use Rattle.relay_hooked.specs.declared.exchange.HookedExchange.{HookedExchange}
+use Rattle.relay_filters.specs.declared.rested.Rested.{Rested}
+use Rattle.relay_hooked.specs.declared.exchange.Begun.{Begun}
 use Rattle.relay_hooked.specs.declared.exchange.Unbegun.{Unbegun}
 
 -- what was kept of a body as one piece, with the end of a body that has ended
@@ -35,8 +35,7 @@ kept_piece client = record {
 -- a side that has that put first, over the client's session: it goes on and has told no error. Its
 -- request has ended exactly where what is put is an end, as it has where the client's body has
 -- ended; and it had not before its first call
-pub record IsBegun {M C : Type 0} (client : HttpSession) (u : Unhooked M C) (piece : Piece)
-    : Type 0 where
+pub record IsBegun (client : HttpSession) (u : Rested) (piece : Piece) : Type 0 where
   pub ended : u.ended ≡ list_any is_end (put_of false piece)
   pub done : is_body_done client.reading ≡ true → u.ended ≡ true
   pub body : is_body_done u.inner.session.reading ≡ is_body_done client.reading
@@ -87,7 +86,7 @@ module _ {M C : Type 0} (session : Session M) (ctx : C) (client : HttpSession) w
         ⊎ CannotPut x.why x.session x.ctx x.client
 
 -- the exchange was not begun, for that reason, and the log is that one
-abbrev pub IsRefusedFor : {M C L : Type 0} → Result (HookedExchange M C L) (Unbegun M C L) → Fail
+abbrev pub IsRefusedFor : {M C L : Type 0} → Result (Begun M C L) (Unbegun M C L) → Fail
     → List LogEntry → Type 0
 IsRefusedFor {M} {C} {L} result why log =
     (unbegun : Unbegun M C L) × (result ≡ Err unbegun) × (unbegun.why ≡ why)

@@ -1,5 +1,5 @@
 -- The calls of filters in an attempt, and what the side that made them tells of them.
-use Rattle.std.specs.Prelude.{ℕ, Bool, List, Option, drop}
+use Rattle.std.specs.Prelude.{Bool, List, Option, drop, length}
 use Rattle.relay_tasks.specs.declared.error.Fail.{Fail}
 use Rattle.relay_tasks.specs.declared.log.LogEntry.{LogEntry}
 
@@ -13,6 +13,6 @@ pub record Filtering : Type 0 where
   pub stopped : Option Fail
   pub refused : Bool
 
--- the calls of an attempt that began behind so many of the log
-abbrev pub calls_behind : ℕ → List LogEntry → List LogEntry
-calls_behind first log = drop first log
+-- the calls of an attempt that began behind those of the log
+abbrev pub calls_behind : List LogEntry → List LogEntry → List LogEntry
+calls_behind called log = drop (length called) log

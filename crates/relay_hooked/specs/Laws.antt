@@ -1,9 +1,7 @@
 -- What each exchange behind filters keeps, whatever passed: laws over the pasts of both sides.
 use Rattle.std.specs.Prelude.{◌≡◌, ℕ, false, List, ◌⊎◌}
 use Rattle.relay_tasks.specs.declared.error.Error.{Error}
-use Rattle.relay_tasks.specs.declared.log.LogEntry.{LogEntry}
 use Rattle.relay_links.specs.Link.{LinkState, LinkStart}
-use Rattle.relay_hooks.specs.Standing.{Standing}
 use Rattle.relay_session.specs.Reading.{is_body_done}
 use Rattle.relay_peer.specs.declared.peer_side.PeerSide.{PeerSide}
 use Rattle.relay_core.specs.Moves.{Finishes, HasReason, SoFar}
@@ -20,13 +18,12 @@ use Rattle.relay_hooked.specs.Sides.{Behind, HookedBlames, HookedCannotEnd, Hook
 abbrev pub passed_by : DownPast → UpPast → Passed
 passed_by p q = record { came = p.came; written = p.written; got = q.got; sent = q.sent }
 
-module _ {L : Type 0} (state : L → LinkState) (start_at : L → LinkStart)
-    (allows : Standing → LogEntry → Type 0) where
+module _ {L : Type 0} (state : L → LinkState) (start_at : L → LinkStart) where
   -- an exchange so far, between a client behind filters and a peer
   abbrev pub GoesSoFar : LinkState → List ℕ → Origin → Behind → PeerSide L → Duplex → DownPast
       → UpPast → Type 0
   GoesSoFar link ahead s b up duplex p q =
-      SoFar (HookedHolds allows link ahead s b) (PeerHolds state start_at s up)
+      SoFar (HookedHolds link ahead s b) (PeerHolds state start_at s up)
       (PeerSideBlames state start_at s up) (hooked_core duplex b up) p q
 
   -- what passed is an attempt between both halves
@@ -34,7 +31,7 @@ module _ {L : Type 0} (state : L → LinkState) (start_at : L → LinkStart)
   IsAttemptSoFar = (link : LinkState) (ahead : List ℕ) (s : Origin) (b : Behind)
       (up : PeerSide L) (duplex : Duplex) (p : DownPast) (q : UpPast)
       → GoesSoFar link ahead s b up duplex p q
-      → IsAttempt (HookedHalf (filtering b) s link b.ended b.side.done)
+      → IsAttempt (HookedHalf (filtering s b) s link b.ended b.side.done)
       (PeerHalf s (start_at up.client.link) (state up.client.link)) (hooked_state b)
 
   -- what passed is told by both links
@@ -49,7 +46,7 @@ module _ {L : Type 0} (state : L → LinkState) (start_at : L → LinkStart)
   IsInOrderSoFar = (link : LinkState) (ahead : List ℕ) (s : Origin) (b : Behind)
       (up : PeerSide L) (duplex : Duplex) (p : DownPast) (q : UpPast)
       → GoesSoFar link ahead s b up duplex p q → b.told.errors ≡ 0
-      → IsInOrder (filtering b) s (passed_by p q) (state up.client.link).ended
+      → IsInOrder (filtering s b) s (passed_by p q) (state up.client.link).ended
 
   -- what failed with an error has its cause in what passed, where the side behind
   -- filters told no other
@@ -59,7 +56,7 @@ module _ {L : Type 0} (state : L → LinkState) (start_at : L → LinkStart)
       → GoesSoFar link ahead s b up duplex p q → TellsAlone b e
       → HasReason (HookedBlames link ahead s b) (HookedRefuses link ahead s b)
       (HookedCannotEnd link ahead s b) (PeerSideBlames state start_at s up) (hooked_state b) p q e
-      → FailsWith (filtering b) s (passed_by p q) link (state up.client.link)
+      → FailsWith (filtering s b) s (passed_by p q) link (state up.client.link)
       (start_at up.client.link) b.side.session e
 
   -- what finished was relayed, or over towards the client early, where the side behind filters told
@@ -70,13 +67,13 @@ module _ {L : Type 0} (state : L → LinkState) (start_at : L → LinkStart)
       (duplex : Duplex) (p : DownPast) (q : UpPast)
       → GoesSoFar link ahead s b up duplex p q → b.told.errors ≡ 0
       → Finishes (hooked_core duplex b up) p q
-      → ((r : IsRelayed (filtering b) s (passed_by p q) (state up.client.link)
+      → ((r : IsRelayed (filtering s b) s (passed_by p q) (state up.client.link)
       (start_at up.client.link))
-      × Leaves (filtering b) s (passed_by p q) (state up.client.link) (start_at up.client.link)
+      × Leaves (filtering s b) s (passed_by p q) (state up.client.link) (start_at up.client.link)
       r.order ahead (is_body_done b.side.session.reading) (keeps_link duplex up)
       × (b.at_first ≡ false
       → Keeps (state up.client.link) (start_at up.client.link) r.order (keeps_link duplex up)))
-      ⊎ ((r : EndsEarly (filtering b) s (passed_by p q) (state up.client.link)
+      ⊎ ((r : EndsEarly (filtering s b) s (passed_by p q) (state up.client.link)
       (start_at up.client.link))
-      × Leaves (filtering b) s (passed_by p q) (state up.client.link) (start_at up.client.link)
+      × Leaves (filtering s b) s (passed_by p q) (state up.client.link) (start_at up.client.link)
       r.order ahead (is_body_done b.side.session.reading) (keeps_link duplex up))

@@ -170,7 +170,7 @@ pub data FailsFor
       → Refuses (is_head_request s.head.method) e f.calls → FailsFor f s p client link start e
   by_writer : (order : IsInOrder f s p link.ended) (stand : Bool) (batch made : List HttpTask)
       → order.closing ≡ [] → IsFrontOf (order.batched ++ batch) order.read
-      → WasMade (is_head_request s.head.method) stand batch made
+      → WasMade (is_head_request s.head.method) stand f.calls batch made
       → first_refusal (request_of s.head) place.NoHead (order.queued ++ made) ≡ Some e
       → FailsFor f s p client link start e
   by_cut : (order : IsInOrderWith (Some e) f s p link.ended) (front : List HttpTask)

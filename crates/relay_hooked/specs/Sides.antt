@@ -11,8 +11,6 @@ use Rattle.relay_core.specs.Past.{Origin, DownPast, UpPast}
 use Rattle.relay_core.specs.Table.{State, core, may_keep}
 use Rattle.relay_core.specs.declared.duplex.Duplex.{Duplex}
 use Rattle.relay_core.specs.declared.told.Told.{Told}
-use Rattle.relay_modules.specs.declared.seen.Seen.{Seen}
-use Rattle.relay_hooks.specs.Standing.{Standing}
 use Rattle.relay_calls.specs.Log.{requests_in}
 use Rattle.relay_peer.specs.RequestWriting.{head_in}
 use Rattle.relay_peer.specs.H1Client.{may_keep_client}
@@ -25,15 +23,12 @@ use Rattle.relay_filters.specs.Hooked.{BlamesOver, HookedPast, RefusesOver, show
 use Rattle.relay_attempt.specs.Exchange.{DownHolds, down_state}
 use Rattle.relay_hooked.specs.Calls.{Filtering, calls_behind}
 
--- the client's side behind filters: the side over the client's session; the session that the hooks
--- were given, and the context's mark; how many calls stood in the log before the side's own; and
--- its flags, of which `stand` says that modules stand, and `was_done` whether the client's body had
--- ended when the side stopped. No hook wanted memory, so the client's session is not lost
+-- the client's side behind filters: the side over the client's session; the log; and its flags, of
+-- which `stand` says that modules stand, and `was_done` whether the client's body had ended when the
+-- side stopped. No hook wanted memory, so the client's session is not lost
 pub record Behind : Type 0 where
   pub side : ClientSide
-  pub seen : Seen
-  pub mark : ℕ
-  pub first : ℕ
+  pub log : List LogEntry
   pub of_head : Bool
   pub at_first : Bool
   pub ended : Bool
@@ -44,10 +39,10 @@ pub record Behind : Type 0 where
   pub stopped : Option Fail
   pub told : Told
 
--- its calls, and what it tells of them
-abbrev pub filtering : Behind → Filtering
-filtering b = record {
-  calls = calls_behind b.first b.seen.log;
+-- its calls since its exchange began, and what it tells of them
+abbrev pub filtering : Origin → Behind → Filtering
+filtering s b = record {
+  calls = calls_behind s.called b.log;
   at_first = b.at_first;
   stood = b.stood;
   stopped = b.stopped;
@@ -60,19 +55,17 @@ hooked_state b = record (down_state b.side) {
   request_ended = b.ended;
   body_done = shown_done b.stopped b.was_done (down_state b.side).body_done;
   told = b.told;
-  calls = length (requests_in b.seen.log);
+  calls = length (requests_in b.log);
 }
 
-module _ (allows : Standing → LogEntry → Type 0) (link : LinkState) (ahead : List ℕ) (s : Origin)
-    (b : Behind) where
+module _ (link : LinkState) (ahead : List ℕ) (s : Origin) (b : Behind) where
   -- its past holds: that of the side over the session, what the filters made of it, and what its
   -- errors say of those that the side over the session told
   abbrev pub HookedHolds : DownPast → Type 0
   HookedHolds p =
-      HookedPast (DownHolds link ahead b.side s) allows s.head.method b.seen b.mark b.first
+      HookedPast (DownHolds link ahead b.side s) s.head.method b.side.session s.called b.log
       b.of_head b.at_first b.ended false b.refused b.stood b.stopped b.told b.side.told p
 
-module _ (link : LinkState) (ahead : List ℕ) (s : Origin) (b : Behind) where
   -- it answers for the error
   abbrev pub HookedBlames : DownPast → Error → Type 0
   HookedBlames p e =
@@ -83,7 +76,7 @@ module _ (link : LinkState) (ahead : List ℕ) (s : Origin) (b : Behind) where
   HookedRefuses p left e =
       RefusesOver (DownHolds link ahead b.side s)
       (λ r tasks why. ClientRefuses s r link b.side.told tasks why) b.of_head b.stood b.stand
-      b.refused b.stopped b.first b.seen.log p left e
+      b.refused b.stopped s.called b.log p left e
 
   -- it cannot end the response, with the error
   abbrev pub HookedCannotEnd : DownPast → Error → Type 0

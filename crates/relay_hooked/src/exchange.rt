@@ -1,5 +1,6 @@
 //! One exchange between a client and an HTTP/1 link to a peer behind the filters of an application,
-//! which is held between turns without it (RFC 9112, sections 6, 7 and 9.3).
+//! which is held between turns without it, and without the session and the context that hooks are
+//! shown (RFC 9112, sections 6, 7 and 9.3).
 ghost use Rattle.std.specs.declared.alloc.Global.{Global};
 ghost use Rattle.std.specs.Prelude.{◌≡◌, ◌↔◌, ◌^◌, ◌-◌, ◌+◌, ◌≤◌, Bool, ℕ, List, [], None, Some, false, drop, is_some, length, min, IfOk, IfErr, IsOkUnless, true, ◌⊎◌};
 ghost use Rattle.relay_tasks.specs.Head.{RequestHead};
@@ -16,32 +17,48 @@ ghost use Rattle.relay_sides.specs.Filtered.{is_head_request};
 ghost use Rattle.relay_sides.specs.Lent.{SameButHead};
 ghost use Rattle.relay_calls.specs.Log.{IsAllowed, requests_in};
 ghost use Rattle.relay_filters.specs.Delay.{delays_of};
-ghost use Rattle.relay_filters.specs.Hooked.{is_lost, stood_head};
+ghost use Rattle.relay_filters.specs.Hooked.{Walks, is_lost, seen_by, stood_head};
 ghost use Rattle.relay_filters.specs.Response.{SomeAllow};
 ghost use Rattle.relay_attempt.specs.Attempt.{IsAttempt};
 ghost use Rattle.relay_attempt.specs.Passed.{Passed};
 ghost use Rattle.relay_hooked.specs.Attempt.{HookedHalf, PeerHalf};
 ghost use Rattle.relay_hooked.specs.Begins.{CallsOnce, CannotPut, IsBegun, IsRefusedFor, IsUnbegun, kept_piece};
 ghost use Rattle.relay_hooked.specs.Exchange.{Asks, HasMoved, IsSilent, IsUnderWay, MeetsSilence, SideHolds, Turns};
-ghost use Rattle.relay_hooked.specs.Head.{behind, link_of, may_keep, side_state};
-ghost use Rattle.relay_hooked.specs.Sides.{filtering};
+ghost use Rattle.relay_hooked.specs.Head.{filtering_of, link_of, may_keep, side_state};
 
 use relay_core::{Piece, Step};
 use relay_exchange::{Exchange, Turn};
-use relay_filters::{Hooked, Unhooked};
+use relay_filters::{Hooked, Rested};
 use relay_hooks::{ProxyHttp, Session};
 use relay_links::{ByteLink, Schedule};
 use relay_peer::PeerSide;
 use relay_session::{Front, HttpSession};
 use relay_sides::{ClientSide, is_head_request};
-use relay_tasks::{Context, ErrorSource, Fail, Pause, RequestHeader, Result};
+use relay_tasks::{Context, ErrorSource, Fail, Pause, PhaseLog, RequestHeader, Result};
 use std::alloc::Global;
 
 /// A request whose head was read, and its response, behind the filters of an application, over one
-/// link to a peer. It borrows nothing: each turn is given the application.
+/// link to a peer. It borrows nothing: each turn is given the application, the session and the
+/// context.
 #[derive(Drop)]
-pub struct HookedExchange<M, C, L> {
-    pub(crate) exchange: Exchange<Unhooked<M, C>, PeerSide<L>>,
+pub struct HookedExchange<L> {
+    pub(crate) exchange: Exchange<Rested, PeerSide<L>>,
+}
+
+/// An exchange that was begun, and the session and the context as its first call left them.
+pub struct Begun<M, C, L> {
+    pub exchange: HookedExchange<L>,
+    pub session: Session<M>,
+    pub ctx: C,
+}
+
+/// An exchange behind a turn, the session and the context as hooks left them, and what the turn came
+/// to.
+pub struct Turned<M, C, L> {
+    pub exchange: HookedExchange<L>,
+    pub session: Session<M>,
+    pub ctx: C,
+    pub turn: Turn,
 }
 
 /// An exchange that was not begun: all that it was to hold, and why.
@@ -100,28 +117,27 @@ pub fn begin<SV: ProxyHttp, L: ByteLink, F: Front>(
     client: HttpSession,
     link: L,
     head: RequestHeader,
-) -> std::result::Result<HookedExchange<SV::Modules, SV::CTX, L>, Unbegun<SV::Modules, SV::CTX, L>>
-    ensures begins { IfOk result (λ x. (front : F) (s : Origin) (came : List ℕ) (reused : Bool)
-        → head ≡ s.sent → s.asked ≡ false
+) -> std::result::Result<Begun<SV::Modules, SV::CTX, L>, Unbegun<SV::Modules, SV::CTX, L>>
+    ensures begins { IfOk result (λ b. (front : F) (s : Origin) (came : List ℕ) (reused : Bool)
+        → head ≡ s.sent → s.asked ≡ false → s.called ≡ session.seen.log
         → BeginsBehind s came (F.state front) (F.ahead front) client
         → ((own : RequestHead) → head_of client.reading ≡ Some own
         → is_head_request own.method ≡ is_head_request s.head.method)
         → IsHandedOut (L.state link) (L.start link) reused → s.reused ≡ reused
-        → IsUnderWay L.state L.start
-        (IsAllowed (SV.allows app.now) (SomeAllow SV.Modules.allows)) (SV.mark_of app.now) s
+        → IsUnderWay L.state L.start s
         (record { came = came; written = []; got = []; sent = [] }) (F.state front)
-        (F.ahead front) x) }
+        (F.ahead front) b.session.seen.log b.exchange) }
     // The only call is that of the filter of requests with what is put again; where nothing is,
     // there is none, and what hooks are shown is as it was.
-    ensures calls { IfOk result (λ x. CallsOnce session ctx client (SV.allows app.now)
-        (SV.mark_of app.now) x.exchange.down.session x.exchange.down.ctx
-        x.exchange.down.inner.session) }
-    ensures once { IfOk result (λ x. length x.exchange.down.session.seen.log
+    ensures calls { IfOk result (λ b. CallsOnce session ctx client (SV.allows app.now)
+        (SV.mark_of app.now) b.session b.ctx b.exchange.exchange.down.inner.session) }
+    ensures once { IfOk result (λ b. length b.session.seen.log
         ≡ length session.seen.log + length (put_again client)) }
-    ensures client { IfOk result (λ x. SameButHead client x.exchange.down.inner.session) }
-    ensures over { IfOk result (λ x. link_of x ≡ link) }
-    ensures first { IfOk result (λ x. x.exchange.down.first ≡ length session.seen.log) }
-    ensures at_first { IfOk result (λ x. x.exchange.down.at_first ≡ false) }
+    ensures client { IfOk result (λ b.
+        SameButHead client b.exchange.exchange.down.inner.session) }
+    ensures over { IfOk result (λ b. link_of b.exchange ≡ link) }
+    ensures at_first { IfOk result (λ b. b.exchange.exchange.down.at_first ≡ false) }
+    ensures alive { IfOk result (λ b. is_lost b.exchange.exchange.down.stopped ≡ false) }
     ensures link_back { IfErr result (λ unbegun. unbegun.link ≡ link) }
     ensures refused { IsRefusedFor result
         (Fail.Error (refused_from ErrorSource.Internal Context.BadFraming)) session.seen.log
@@ -141,9 +157,20 @@ pub fn begin<SV: ProxyHttp, L: ByteLink, F: Front>(
     }
     let body_done = client.is_body_done();
     match put_first::<SV, F>(app, alloc, session, ctx, client) {
-        Ok((down, first)) => {
-            let exchange = Exchange::begin(alloc, down, body_done, peer, Some(first));
-            Ok(HookedExchange { exchange })
+        Ok(
+            Put {
+                down,
+                piece,
+                session,
+                ctx,
+            },
+        ) => {
+            let exchange = Exchange::begin(alloc, down, body_done, peer, Some(piece));
+            Ok(Begun {
+                exchange: HookedExchange { exchange },
+                session,
+                ctx,
+            })
         }
         Err(unput) => Err(unput.with_link(peer.into_link())),
     }
@@ -158,74 +185,92 @@ pub fn begin<SV: ProxyHttp, L: ByteLink, F: Front>(
 /// written or sent from then on. Where memory was wanted in a hook the turn is out of memory.
 /// After `Finished` and `Failed` no turn is to follow.
 pub fn turn<SV: ProxyHttp, L: ByteLink, F: Front, H: Schedule>(
-    under_way: HookedExchange<SV::Modules, SV::CTX, L>,
+    under_way: HookedExchange<L>,
     app: &SV,
+    session: Session<SV::Modules>,
+    ctx: SV::CTX,
     client: &mut F,
     schedule: &mut H,
-) -> (HookedExchange<SV::Modules, SV::CTX, L>, Turn)
+) -> Turned<SV::Modules, SV::CTX, L>
     ensures goes { (s : Origin) (p : Passed)
-        → IsUnderWay L.state L.start (IsAllowed (SV.allows app.now) (SomeAllow SV.Modules.allows))
-        (SV.mark_of app.now) s p (F.state client.old) (F.ahead client.old) under_way
-        → Turns L.state L.start (IsAllowed (SV.allows app.now) (SomeAllow SV.Modules.allows))
-        (SV.mark_of app.now) s (F.state client.new) (F.ahead client.new) result.0
-        result.1.step }
+        → IsUnderWay L.state L.start s p (F.state client.old) (F.ahead client.old)
+        session.seen.log under_way
+        → Turns L.state L.start s (F.state client.new) (F.ahead client.new)
+        result.session.seen.log result.exchange result.turn.step }
     // What passed is an attempt: each side was given the front of what the other put.
     ensures attempt { (s : Origin) (p : Passed)
-        → IsUnderWay L.state L.start (IsAllowed (SV.allows app.now) (SomeAllow SV.Modules.allows))
-        (SV.mark_of app.now) s p (F.state client.old) (F.ahead client.old) under_way
-        → IsAttempt (HookedHalf (filtering (behind (SV.mark_of app.now) result.0.exchange.down))
-        s (F.state client.new) result.0.exchange.down.ended result.0.exchange.down.inner.done)
-        (PeerHalf s (L.start (link_of result.0)) (L.state (link_of result.0)))
-        (side_state result.0.exchange.down) }
+        → IsUnderWay L.state L.start s p (F.state client.old) (F.ahead client.old)
+        session.seen.log under_way
+        → IsAttempt (HookedHalf (filtering_of s result.session.seen.log result.exchange.exchange.down)
+        s (F.state client.new) result.exchange.exchange.down.ended
+        result.exchange.exchange.down.inner.done)
+        (PeerHalf s (L.start (link_of result.exchange)) (L.state (link_of result.exchange)))
+        (side_state result.session.seen.log result.exchange.exchange.down) }
+    // The calls of the turn stand in the log behind those before, each of them allowed, and lead
+    // from the session and the context as they were to both as they are.
+    ensures walks { Walks (IsAllowed (SV.allows app.now) (SomeAllow SV.Modules.allows))
+        (is_lost under_way.exchange.down.stopped) (is_lost result.exchange.exchange.down.stopped)
+        (seen_by session.seen under_way.exchange.down.inner.session) (SV.mark_of app.now ctx)
+        (seen_by result.session.seen result.exchange.exchange.down.inner.session)
+        (SV.mark_of app.now result.ctx) }
     // It waits only where a link answered so in this turn.
-    ensures waits { result.1.step ≡ Step.Waited Pause.NotReady
+    ensures waits { result.turn.step ≡ Step.Waited Pause.NotReady
         → WaitRose (F.state client.old) (F.state client.new) (L.state (link_of under_way))
-        (L.state (link_of result.0)) }
-    ensures silent { result.1.step ≡ Step.Waited Pause.Silent
-        → IsSilent L.state (F.state client.new) result.0 }
+        (L.state (link_of result.exchange)) }
+    ensures silent { result.turn.step ≡ Step.Waited Pause.Silent
+        → IsSilent L.state (F.state client.new) result.exchange }
     // In silence all that can be done asks a link that is silent on it, and neither link
     // changed.
-    ensures quiet { result.1.step ≡ Step.Waited Pause.Silent
-        → MeetsSilence L.state (F.state client.old) (F.state client.new) under_way result.0 }
+    ensures quiet { result.turn.step ≡ Step.Waited Pause.Silent
+        → MeetsSilence L.state (F.state client.old) (F.state client.new) result.session.seen.log
+        under_way result.exchange }
     // A turn asks one link once, or none. One that moved asked the link of its branch, or it
     // put a task into a pipe, took some out of one, brought an end, or called the filter of
     // requests.
-    ensures asks { Asks L.state result.1.step (F.state client.old) (F.state client.new) under_way
-        result.0 }
+    ensures asks { Asks L.state result.turn.step (F.state client.old) (F.state client.new) under_way
+        result.exchange }
     ensures moves { (s : Origin) (p : Passed)
-        → IsUnderWay L.state L.start (IsAllowed (SV.allows app.now) (SomeAllow SV.Modules.allows))
-        (SV.mark_of app.now) s p (F.state client.old) (F.ahead client.old) under_way
-        → result.1.step ≡ Step.Moved
-        → HasMoved L.state result.1.branch (F.state client.old) (F.state client.new) under_way
-        result.0 }
+        → IsUnderWay L.state L.start s p (F.state client.old) (F.ahead client.old)
+        session.seen.log under_way
+        → result.turn.step ≡ Step.Moved
+        → HasMoved L.state result.turn.branch (F.state client.old) (F.state client.new)
+        session.seen.log result.session.seen.log under_way result.exchange }
     // A turn that does not fail takes no call of the filter of requests back.
-    ensures counts { says_failed result.1.step ≡ false
-        → length (requests_in under_way.exchange.down.session.seen.log)
-        ≤ length (requests_in result.0.exchange.down.session.seen.log) }
+    ensures counts { says_failed result.turn.step ≡ false
+        → length (requests_in session.seen.log) ≤ length (requests_in result.session.seen.log) }
     // A turn that does not fail leaves the count of the client's faults, and a client's session
     // that no hook may have left as anything.
-    ensures calm { says_failed result.1.step ≡ false
+    ensures calm { says_failed result.turn.step ≡ false
         → (F.state client.new).faults ≡ (F.state client.old).faults }
-    ensures alive { says_failed result.1.step ≡ false
-        → is_lost result.0.exchange.down.stopped ≡ false }
+    ensures alive { says_failed result.turn.step ≡ false
+        → is_lost result.exchange.exchange.down.stopped ≡ false }
     ensures client_start { F.start client.new ≡ F.start client.old }
-    ensures peer_start { L.start (link_of result.0) ≡ L.start (link_of under_way) }
-    // Nothing else takes the place of what it began with: so many calls stood in the log before
-    // its own, the request had ended before the first of them or not, and there is a head.
-    ensures first { result.0.exchange.down.first ≡ under_way.exchange.down.first }
-    ensures at_first { result.0.exchange.down.at_first ≡ under_way.exchange.down.at_first }
-    ensures head { stood_head (is_lost result.0.exchange.down.stopped) result.0.exchange.down.inner.session
+    ensures peer_start { L.start (link_of result.exchange) ≡ L.start (link_of under_way) }
+    // Nothing else takes the place of what it began with: the request had ended before its first
+    // call or not, and there is a head.
+    ensures at_first { result.exchange.exchange.down.at_first ≡ under_way.exchange.down.at_first }
+    ensures head { stood_head (is_lost result.exchange.exchange.down.stopped)
+        result.exchange.exchange.down.inner.session
         ≡ stood_head (is_lost under_way.exchange.down.stopped) under_way.exchange.down.inner.session }
 {
     let HookedExchange { exchange } = under_way;
-    let mut held = with_app(exchange, app);
+    let mut held = with_app(exchange, app, session, ctx);
     let went = held.turn(client, schedule);
-    let left = without_app(held);
-    let turn = settled(&left, went);
-    (HookedExchange { exchange: left }, turn)
+    let Held {
+        exchange,
+        session,
+        ctx,
+    } = without_app(held);
+    let turn = settled(&exchange, went);
+    Turned {
+        exchange: HookedExchange { exchange },
+        session,
+        ctx,
+        turn,
+    }
 }
 
-impl<M, C, L: ByteLink> HookedExchange<M, C, L> {
+impl<L: ByteLink> HookedExchange<L> {
     /// The session of the client's request, which hooks were shown. Where memory was wanted in one
     /// it may be anything.
     pub fn client_session(&self) -> &HttpSession
@@ -243,14 +288,7 @@ impl<M, C, L: ByteLink> HookedExchange<M, C, L> {
     }
 }
 
-impl<M, C, L> HookedExchange<M, C, L> {
-    /// The session whose log has the calls. A stand-in is in the place of the client's session.
-    pub fn session(&self) -> &Session<M>
-        ensures { result.now ≡ self.now.exchange.down.session }
-    {
-        self.exchange.down().session()
-    }
-
+impl<L> HookedExchange<L> {
     /// Whether modules stood for each batch that passed its filters so far.
     pub fn modules_stood(&self) -> bool
         ensures { result ≡ self.now.exchange.down.stood }
@@ -265,43 +303,34 @@ impl<M, C, L> HookedExchange<M, C, L> {
         self.exchange.up().link()
     }
 
-    /// The session whose log has the calls, the context, the session of the client's request, and
-    /// the link.
-    pub fn into_parts(self) -> (Session<M>, C, HttpSession, L)
-        ensures session { result.0 ≡ self.exchange.down.session }
-        ensures ctx { result.1 ≡ self.exchange.down.ctx }
-        ensures client { result.2 ≡ self.exchange.down.inner.session }
-        ensures link { result.3 ≡ link_of self }
+    /// The session of the client's request, and the link.
+    pub fn into_parts(self) -> (HttpSession, L)
+        ensures client { result.0 ≡ self.exchange.down.inner.session }
+        ensures link { result.1 ≡ link_of self }
     {
         let HookedExchange { exchange } = self;
         let (down, up) = exchange.into_parts();
-        let (inner, session, ctx) = down.into_parts();
-        (session, ctx, inner.into_session(), up.into_link())
+        (down.into_inner().into_session(), up.into_link())
     }
 
     /// The exchange without the delay in milliseconds that the filters of pieces asked for since it
-    /// was last taken, or since it began, and that delay, as `Unhooked::take_delay`.
-    pub fn take_delay(self) -> (HookedExchange<M, C, L>, u64)
-        ensures sum { result.1 ≡ min
-            (delays_of (drop self.exchange.down.counted self.exchange.down.session.seen.log))
-            (2 ^ 64 - 1) }
+    /// was last taken, or since it began, and that delay, as `Rested::take_delay` of that log.
+    pub fn take_delay(self, log: &PhaseLog) -> (HookedExchange<L>, u64)
+        ensures sum { result.1
+            ≡ min (delays_of (drop self.exchange.down.counted log.now)) (2 ^ 64 - 1) }
         ensures counted { result.0 ≡ record self {
           exchange = record self.exchange {
-            down = record self.exchange.down {
-              counted = length self.exchange.down.session.seen.log;
-            };
+            down = record self.exchange.down { counted = length log.now };
           };
         } }
     {
         let HookedExchange { exchange } = self;
         let (exchange, mut down) = exchange.replace_down(());
-        let delay = down.take_delay();
+        let delay = down.take_delay(log);
         let (exchange, ()) = exchange.replace_down(down);
         (HookedExchange { exchange }, delay)
     }
-}
 
-impl<M: Drop, C: Drop, L> HookedExchange<M, C, L> {
     /// The link alone.
     pub fn into_link(self) -> L
         ensures { result ≡ link_of self }
@@ -311,42 +340,63 @@ impl<M: Drop, C: Drop, L> HookedExchange<M, C, L> {
     }
 }
 
-/// The exchange with that application, for a turn.
+/// An exchange between turns, and what hooks are shown.
+struct Held<M, C, L> {
+    exchange: Exchange<Rested, PeerSide<L>>,
+    session: Session<M>,
+    ctx: C,
+}
+
+/// The exchange with that application, that session and that context, for a turn.
 fn with_app<'a, SV: ProxyHttp, L>(
-    exchange: Exchange<Unhooked<SV::Modules, SV::CTX>, PeerSide<L>>,
+    exchange: Exchange<Rested, PeerSide<L>>,
     app: &'a SV,
+    session: Session<SV::Modules>,
+    ctx: SV::CTX,
 ) -> Exchange<Hooked<'a, SV>, PeerSide<L>>
     ensures { result ≡ record {
-      down = record { app = app.entry; side = exchange.down };
+      down = record {
+        app = app.entry;
+        session = session;
+        ctx = ctx;
+        side = exchange.down;
+      };
       up = exchange.up;
       duplex = exchange.duplex;
       stage = exchange.stage;
     } }
 {
     let (bare, side) = exchange.replace_down(());
-    let (held, ()) = bare.replace_down(Hooked::resume(app, side));
+    let (held, ()) = bare.replace_down(Hooked::resume(app, session, ctx, side));
     held
 }
 
-/// The exchange without it, to be held until the next turn.
+/// The exchange without it, to be held until the next turn, and the session and the context.
 fn without_app<'a, SV: ProxyHttp, L>(
     exchange: Exchange<Hooked<'a, SV>, PeerSide<L>>,
-) -> Exchange<Unhooked<SV::Modules, SV::CTX>, PeerSide<L>>
-    ensures { result ≡ record {
+) -> Held<SV::Modules, SV::CTX, L>
+    ensures exchange { result.exchange ≡ record {
       down = exchange.entry.down.side;
       up = exchange.entry.up;
       duplex = exchange.entry.duplex;
       stage = exchange.entry.stage;
     } }
+    ensures session { result.session ≡ exchange.entry.down.session }
+    ensures ctx { result.ctx ≡ exchange.entry.down.ctx }
 {
     let (bare, hooked) = exchange.replace_down(());
-    let (held, ()) = bare.replace_down(hooked.suspend());
-    held
+    let (side, session, ctx) = hooked.suspend();
+    let (exchange, ()) = bare.replace_down(side);
+    Held {
+        exchange,
+        session,
+        ctx,
+    }
 }
 
 /// What a turn came to that left this: where memory was wanted in a hook, that, whatever the duplex
 /// answered.
-fn settled<M, C, L>(left: &Exchange<Unhooked<M, C>, PeerSide<L>>, turn: Turn) -> Turn
+fn settled<L>(left: &Exchange<Rested, PeerSide<L>>, turn: Turn) -> Turn
     ensures branch { result.branch ≡ turn.branch }
     ensures lost { is_lost left.now.down.stopped ≡ true
         → result.step ≡ Step.Failed Fail.OutOfMemory }
@@ -393,6 +443,15 @@ fn puts(piece: &Piece) -> bool
     !piece.is_empty() || piece.upstream_end
 }
 
+/// The client's side behind filters, what is put before any turn, and the session and the context as
+/// the call of the filter left them.
+struct Put<M, C> {
+    down: Rested,
+    piece: Piece,
+    session: Session<M>,
+    ctx: C,
+}
+
 /// The client's side behind the filters of that application, and what is put before any turn: what
 /// passes of what the session has kept of the body. Where that puts nothing no filter is called.
 ///
@@ -403,18 +462,17 @@ fn put_first<SV: ProxyHttp, F: Front>(
     session: Session<SV::Modules>,
     ctx: SV::CTX,
     client: HttpSession,
-) -> std::result::Result<(Unhooked<SV::Modules, SV::CTX>, Piece), Unbegun<SV::Modules, SV::CTX, ()>>
+) -> std::result::Result<Put<SV::Modules, SV::CTX>, Unbegun<SV::Modules, SV::CTX, ()>>
     ensures begins { IfOk result (λ r. (front : F) (s : Origin) (came : List ℕ)
+        → s.called ≡ session.seen.log
         → BeginsBehind s came (F.state front) (F.ahead front) client
         → ((own : RequestHead) → head_of client.reading ≡ Some own
         → is_head_request own.method ≡ is_head_request s.head.method)
-        → SideHolds (IsAllowed (SV.allows app.now) (SomeAllow SV.Modules.allows))
-        (SV.mark_of app.now) (F.state front) (F.ahead front) s r.0
-        (begun_past came (put_of false r.1))) }
-    ensures begun { IfOk result (λ r. IsBegun client r.0 r.1) }
-    ensures first { IfOk result (λ r. r.0.first ≡ length session.seen.log) }
+        → SideHolds (F.state front) (F.ahead front) r.session.seen.log s r.down
+        (begun_past came (put_of false r.piece))) }
+    ensures begun { IfOk result (λ r. IsBegun client r.down r.piece) }
     ensures calls { IfOk result (λ r. CallsOnce session ctx client (SV.allows app.now)
-        (SV.mark_of app.now) r.0.session r.0.ctx r.0.inner.session) }
+        (SV.mark_of app.now) r.session r.ctx r.down.inner.session) }
     ensures causes { IfErr result (λ unput. CannotPut session ctx client (SV.allows app.now)
         (SV.mark_of app.now) unput.why unput.session unput.ctx unput.client) }
 {
@@ -434,30 +492,48 @@ fn put_first<SV: ProxyHttp, F: Front>(
     let inner = ClientSide::new(alloc, client);
     if !puts(&kept) {
         let hooked = Hooked::new::<F>(app, session, ctx, inner, false, of_head);
-        return Ok((hooked.suspend(), kept));
+        return Ok(suspended(hooked, kept));
     }
     let (hooked, passed) = Hooked::begin_again::<F>(app, session, ctx, inner, kept, of_head);
     match passed {
-        Ok(made) => Ok((hooked.suspend(), made)),
-        Err(why) => Err(unput(hooked.suspend(), why)),
+        Ok(made) => Ok(suspended(hooked, made)),
+        Err(why) => Err(unput(hooked, why)),
+    }
+}
+
+/// The side between turns that puts that first.
+fn suspended<SV: ProxyHttp>(hooked: Hooked<'_, SV>, piece: Piece) -> Put<SV::Modules, SV::CTX>
+    ensures { result ≡ record {
+      down = hooked.entry.side;
+      piece = piece;
+      session = hooked.entry.session;
+      ctx = hooked.entry.ctx;
+    } }
+{
+    let (down, session, ctx) = hooked.suspend();
+    Put {
+        down,
+        piece,
+        session,
+        ctx,
     }
 }
 
 /// All that a side holds for which nothing was put, for that reason.
-fn unput<M, C>(side: Unhooked<M, C>, why: Fail) -> Unbegun<M, C, ()>
+fn unput<SV: ProxyHttp>(hooked: Hooked<'_, SV>, why: Fail) -> Unbegun<SV::Modules, SV::CTX, ()>
     ensures { result ≡ record {
-      session = side.session;
-      ctx = side.ctx;
-      client = side.inner.session;
+      session = hooked.entry.session;
+      ctx = hooked.entry.ctx;
+      client = hooked.entry.side.inner.session;
       link = tt;
       why = why;
     } }
 {
-    let (inner, session, ctx) = side.into_parts();
+    let (side, session, ctx) = hooked.suspend();
     Unbegun {
         session,
         ctx,
-        client: inner.into_session(),
+        client: side.into_inner().into_session(),
         link: (),
         why,
     }

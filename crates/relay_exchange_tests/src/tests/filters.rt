@@ -79,8 +79,8 @@ fn release<T: Drop>(_value: T) {}
 /// How many calls were entered by that side, which is let go of.
 fn entered(side: Side<'_>) -> usize {
     let calls = side.session().phase_log().len();
-    let (inner, held, ctx) = side.into_parts();
-    release(inner);
+    let (rested, held, ctx) = side.suspend();
+    release(rested);
     release(held);
     release(ctx);
     calls

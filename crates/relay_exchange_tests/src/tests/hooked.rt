@@ -1,5 +1,5 @@
-//! Whole exchanges behind an application, which is held by none of them between two turns. What
-//! comes of one is a plain value.
+//! Whole exchanges behind an application, which is held by none of them between two turns, nor is
+//! what hooks are shown. What comes of one is a plain value.
 use super::app::{Changes, Does, app};
 use super::scripts::{Gives, has_taken, link};
 use bytes::Bytes;
@@ -8,7 +8,7 @@ use http_header::{CONTENT_LENGTH, HeaderValue};
 use relay_core::Step;
 use relay_exchange::Turn;
 use relay_h1::{Connection, Framing};
-use relay_hooked::{HookedExchange, Unbegun, begin, turn};
+use relay_hooked::{Begun, Turned, Unbegun, begin, turn};
 use relay_hooks::{App, Counted, NoModules, ProxyHttp, Session};
 use relay_links::{ListSchedule, ScriptLink};
 use relay_session::HttpSession;
@@ -17,7 +17,8 @@ use std::alloc::Global;
 
 type Client = Connection<ScriptLink, ()>;
 
-type Exchange = HookedExchange<NoModules, Counted<Bytes>, ScriptLink>;
+/// An exchange, and the session and the context that its hooks are shown.
+type Exchange = Begun<NoModules, Counted<Bytes>, ScriptLink>;
 
 /// The head of an upload of four bytes.
 fn upload(alloc: Global) -> Result<RequestHeader> {
@@ -49,7 +50,7 @@ fn begun_with(
 ) -> Option<Exchange> {
     let ctx = app.new_ctx();
     match begin::<App<Changes>, ScriptLink, Client>(app, alloc, session, ctx, client, peer, head) {
-        Ok(exchange) => Some(exchange),
+        Ok(begun) => Some(begun),
         Err(
             Unbegun {
                 session: _session,
@@ -71,35 +72,52 @@ fn begun(app: &App<Changes>, alloc: Global) -> Result<Option<Exchange>> {
     Ok(begun_with(app, alloc, session, client, peer, head))
 }
 
-/// Takes turns, each of which is given the application, until the exchange ends, both links are
-/// silent, or 100 were taken. The last answer.
+/// Takes turns, each of which is given the application, the session and the context, until the
+/// exchange ends, both links are silent, or 100 were taken. The last answer.
 fn run(
-    exchange: Exchange,
+    begun: Exchange,
     app: &App<Changes>,
     alloc: Global,
     client: &mut Client,
 ) -> (Exchange, Step) {
     let mut schedule = ListSchedule::new(Vec::new(alloc));
-    let mut exchange = exchange;
+    let mut held = begun;
     for _ in 0..100 {
-        let (next, Turn { step, branch: _ }) = turn(exchange, app, client, &mut schedule);
-        exchange = next;
+        let Begun {
+            exchange,
+            session,
+            ctx,
+        } = held;
+        let Turned {
+            exchange,
+            session,
+            ctx,
+            turn: Turn { step, branch: _ },
+        } = turn(exchange, app, session, ctx, client, &mut schedule);
+        held = Begun {
+            exchange,
+            session,
+            ctx,
+        };
         match step {
             Step::Moved | Step::Waited(Pause::NotReady) => {}
-            Step::Waited(Pause::Silent) | Step::Finished | Step::Failed(_) => {
-                return (exchange, step);
-            }
+            Step::Waited(Pause::Silent) | Step::Finished | Step::Failed(_) => return (held, step),
         }
     }
-    (exchange, Step::Moved)
+    (held, Step::Moved)
 }
 
 /// What an exchange leaves: whether its link may be kept, whether its modules stood, how many calls
 /// were entered, and whether the peer was sent that text.
-fn left(exchange: Exchange, sent: &str) -> (bool, bool, usize, bool) {
+fn left(held: Exchange, sent: &str) -> (bool, bool, usize, bool) {
+    let Begun {
+        exchange,
+        session,
+        ctx: _ctx,
+    } = held;
     let may_keep = exchange.may_keep();
     let stood = exchange.modules_stood();
-    let entered = exchange.session().phase_log().len();
+    let entered = session.phase_log().len();
     (
         may_keep,
         stood,
@@ -110,15 +128,15 @@ fn left(exchange: Exchange, sent: &str) -> (bool, bool, usize, bool) {
 
 /// Whether the exchange finishes with these texts and eight calls, and its link may be kept.
 fn finishes(
-    exchange: Exchange,
+    begun: Exchange,
     app: &App<Changes>,
     alloc: Global,
     client: &mut Client,
     sent: &str,
     written: &str,
 ) -> bool {
-    let (exchange, last) = run(exchange, app, alloc, client);
-    left(exchange, sent) == (true, true, 8, true)
+    let (held, last) = run(begun, app, alloc, client);
+    left(held, sent) == (true, true, 8, true)
         && last == Step::Finished
         && has_taken(client.link(), written)
 }
@@ -129,7 +147,7 @@ fn comes_to(does: Does, alloc: Global, sent: &str, written: &str) -> Result<bool
     let script = &[Gives::Text("ab"), Gives::Text("cd")];
     let mut client: Client = Connection::new(alloc, link(alloc, script)?);
     match begun(&app, alloc)? {
-        Some(exchange) => Ok(finishes(exchange, &app, alloc, &mut client, sent, written)),
+        Some(begun) => Ok(finishes(begun, &app, alloc, &mut client, sent, written)),
         None => Ok(false),
     }
 }

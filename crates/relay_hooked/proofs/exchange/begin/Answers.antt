@@ -1,9 +1,8 @@
 -- An exchange begins once its head was queued and what was kept of the body has passed its filter;
 -- it is not begun where the head is refused.
-use Rattle.std.proofs.Common.{◌≡◌, false, [], Option, Some, None, Err, ◌↔◌, length, inr, refl, sym, ap, subst, ◌∙◌}
+use Rattle.std.proofs.Common.{◌≡◌, false, [], Option, Some, None, Err, ◌↔◌, inr, refl, sym, ap, subst, ◌∙◌}
 use Rattle.relay_tasks.specs.declared.error.Fail.{Fail}
 use Rattle.relay_tasks.specs.declared.error.Fail.TheVariants as fail
-use Rattle.relay_tasks.specs.declared.log.LogEntry.{LogEntry}
 use Rattle.relay_links.specs.Link.{IsHandedOut}
 use Rattle.relay_h1.specs.Framing.{request_framing}
 use Rattle.relay_session.specs.Reading.{is_body_done}
@@ -17,11 +16,8 @@ use Rattle.relay_exchange.specs.declared.exchange.Exchange.{Exchange}
 use Rattle.relay_exchange.specs.declared.exchange.Stage.TheVariants as stage
 use Rattle.relay_exchange.specs.Exchange.{put_first}
 use Rattle.relay_exchange.proofs.TurnLemmas.{begun}
-use Rattle.relay_hooks.specs.Standing.{Standing}
-use Rattle.relay_calls.specs.Log.{IsAllowed}
 use Rattle.relay_filters.specs.Hooked.{is_lost, shown_done}
-use Rattle.relay_filters.specs.Response.{SomeAllow}
-use Rattle.relay_filters.specs.declared.unhooked.Unhooked.{Unhooked}
+use Rattle.relay_filters.specs.declared.rested.Rested.{Rested}
 use Rattle.relay_hooked.specs.Begins.{CallsOnce, IsRefusedFor, IsUnbegun}
 use Rattle.relay_hooked.specs.Exchange.{IsUnderWay, SideHolds}
 use Rattle.relay_hooked.specs.Head.{side_state}
@@ -36,29 +32,24 @@ pub returns-in-Ok-clause-begins : goal.returns-in-Ok-clause-begins
 returns-in-Ok-clause-begins g c =
     let state = g.L.ByteLink.state in
     let start_at = g.L.ByteLink.start in
-    let law : g.row.SV.Denot → Standing → LogEntry → Type 0 = λ a.
-    IsAllowed (g.SV.ProxyHttp.allows a) (SomeAllow g.SV.Modules.HttpModule.allows) in
-    let allows = law c.args.app.now in
-    let mark = g.SV.ProxyHttp.mark_of c.args.app.now in
-    let side = c.in-Ok.down in
+    let side = c.in-Ok.field-0.down in
+    let log = c.in-Ok.field-0.session.seen.log in
     let begins = c.in-Ok.ensures.begun in
     let up = c.write_request_header.new.self in
     let value = c.is_body_done-body_done.ensures.value in
-    let done : (side_state side).body_done ≡ c.is_body_done-body_done.result =
+    let done : (side_state log side).body_done ≡ c.is_body_done-body_done.result =
     ap (λ (o : Option Fail).
     shown_done o side.was.body_done (is_body_done side.inner.session.reading)) begins.goes_on
     ∙ begins.body ∙ sym value in
-    λ front s came reused own none behind heads out used.
+    λ front s came reused own none called behind heads out used.
     let link = g.F.Front.state front in
     let ahead = g.F.Front.ahead front in
-    let past = begun_past came (put_of false c.in-Ok.first) in
-    let Begun : Exchange (Unhooked g.row.SV-Modules.Denot g.row.SV-CTX.Denot)
-    (PeerSide g.row.L.Denot) → Type 0 = λ x.
-    IsUnderWay state start_at allows mark s
-    (record { came = came; written = []; got = []; sent = [] }) link ahead
-    (record { exchange = x }) in
-    subst Begun (sym c.begin-exchange.ensures.exact)
-    (under_way state start_at allows mark s link ahead
+    let past = begun_past came (put_of false c.in-Ok.field-0.piece) in
+    let Begins : Exchange Rested (PeerSide g.row.L.Denot) → Type 0 = λ x.
+    IsUnderWay state start_at s (record { came = came; written = []; got = []; sent = [] }) link
+    ahead log (record { exchange = x }) in
+    subst Begins (sym c.begin-exchange.ensures.exact)
+    (under_way state start_at s link ahead log false
     (record {
       exchange = record {
         down = side;
@@ -67,11 +58,11 @@ returns-in-Ok-clause-begins g c =
         stage = stage.Head;
       };
     }) past none_passed
-    (begun (SideHolds allows mark link ahead s side) (PeerHolds state start_at s up)
+    (begun (SideHolds link ahead log s side) (PeerHolds state start_at s up)
     (PeerSideBlames state start_at s up) c.is_body_done-body_done.result
-    (put_first (Some c.in-Ok.first)) (side_state side) (peer.state_of up) past none_passed
+    (put_first (Some c.in-Ok.field-0.piece)) (side_state log side) (peer.state_of up) past none_passed
     (record {
-      down_holds = c.in-Ok.ensures.begins front s came behind heads;
+      down_holds = c.in-Ok.ensures.begins front s came called behind heads;
       up_holds = c.in_default.ensures.begins s own none c.new-peer.ensures.fresh reused
           (subst (λ l. IsHandedOut (state l) (start_at l) reused) (sym c.new-peer.ensures.link) out)
           used;
@@ -93,25 +84,22 @@ returns-in-Ok-clause-begins g c =
     })
     c.begin-exchange.result.duplex
     c.begin-exchange.ensures.fresh
-    (c.begin-exchange.ensures.sound (side_state side) done))
+    (c.begin-exchange.ensures.sound (side_state log side) done))
     (ap (λ (o : Option Fail). is_lost o) begins.goes_on) begins.untold)
 
 -- its side is the one that was begun
 pub returns-in-Ok-clause-calls : goal.returns-in-Ok-clause-calls
 returns-in-Ok-clause-calls g c =
-    subst (λ (x : Exchange (Unhooked g.row.SV-Modules.Denot g.row.SV-CTX.Denot)
-    (PeerSide g.row.L.Denot)).
+    subst (λ (x : Exchange Rested (PeerSide g.row.L.Denot)).
     CallsOnce c.args.session c.args.ctx c.args.client
     (g.SV.ProxyHttp.allows c.args.app.now) (g.SV.ProxyHttp.mark_of c.args.app.now)
-    x.down.session x.down.ctx x.down.inner.session) (sym c.begin-exchange.ensures.exact)
+    c.in-Ok.field-0.session c.in-Ok.field-0.ctx x.down.inner.session) (sym c.begin-exchange.ensures.exact)
     c.in-Ok.ensures.calls
 
 pub returns-in-Ok-clause-once : goal.returns-in-Ok-clause-once
 returns-in-Ok-clause-once g c =
-    ap (λ (x : Exchange (Unhooked g.row.SV-Modules.Denot g.row.SV-CTX.Denot)
-    (PeerSide g.row.L.Denot)). length x.down.session.seen.log) c.begin-exchange.ensures.exact
-    ∙ grown c.args.session c.args.ctx c.args.client _ _ c.in-Ok.down.session c.in-Ok.down.ctx
-    c.in-Ok.down.inner.session c.in-Ok.ensures.calls
+    grown c.args.session c.args.ctx c.args.client _ _ c.in-Ok.field-0.session c.in-Ok.field-0.ctx
+    c.in-Ok.field-0.down.inner.session c.in-Ok.ensures.calls
 
 -- one whose head was refused has not
 pub returns-in-Err-clause-refused : goal.returns-in-Err-clause-refused
