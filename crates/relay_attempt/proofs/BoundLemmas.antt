@@ -37,7 +37,7 @@ failure_counts (Some error) true none = omega arith
 failure_counts (Some error) false none = let wrong = none refl in absurd (cc)
 
 -- what is held of the response was read, or is the failure with which it ended
-held_counts : (read batched held : List HttpTask) (failed over ended : Bool)
+pub held_counts : (read batched held : List HttpTask) (failed over ended : Bool)
     → ResponseHeld read batched held failed over ended → length held ≤ length read + one_if ended
 held_counts read batched held failed over ended h =
     let len = λ (xs : List HttpTask). length xs in
@@ -56,12 +56,12 @@ held_counts read batched held failed over ended h =
     )
 
 -- a test counts one at most
-one_at_most : (b : Bool) → one_if b ≤ 1
+pub one_at_most : (b : Bool) → one_if b ≤ 1
 one_at_most true = omega arith
 one_at_most false = omega arith
 
 -- no more ends are left than there are
-left_at_most : (s : State) → ends_left s ≤ most_ends
+pub left_at_most : (s : State) → ends_left s ≤ most_ends
 left_at_most s =
     omega (
       arith,
@@ -73,7 +73,7 @@ left_at_most s =
     )
 
 -- where not both halves have finished an end is left
-one_left : (s : State) → is_finished s.duplex ≡ false → 1 ≤ ends_left s
+pub one_left : (s : State) → is_finished s.duplex ≡ false → 1 ≤ ends_left s
 one_left s unfinished = by s.duplex.upstream_finished s.duplex.client_finished refl refl unfinished
   where
     by : (up client : Bool) → s.duplex.upstream_finished ≡ up → s.duplex.client_finished ≡ client
@@ -101,7 +101,7 @@ module _ {L : Type 0} (state : L → LinkState) (start_at : L → LinkStart) whe
 
   module _ (s : Origin) (p : DownPast) (q : UpPast) (link : LinkState) (ahead : List ℕ)
       (x : H1Exchange L)
-      (so_far : SoFar (DownHolds link ahead x.exchange.down s)
+      (so_far : SoFar (DownHolds link ahead x.down s)
       (UpHolds state start_at x.exchange.up s)
       (Blames state start_at x.exchange.up s) (core_in state start_at x) p q)
     where
@@ -109,7 +109,7 @@ module _ {L : Type 0} (state : L → LinkState) (start_at : L → LinkStart) whe
       put_within : length p.put + 3 ≤ length s.ahead + length p.came
       put_within =
           let c = so_far.down.passed.client in
-          let session = x.exchange.down.session in
+          let session = x.down.session in
           let within = pieces_within (s.ahead ++ p.came) c.head c.framing c.len p.put c.has
           (pieces_said s p link ahead session c (so_far.steady refl).ends_last) c.some in
           omega (arith, within, length-append s.ahead p.came)
@@ -146,8 +146,8 @@ module _ {L : Type 0} (state : L → LinkState) (start_at : L → LinkStart) whe
           → IsWithin tasks ends s link (state (link_of x)) (start_at (link_of x))
       within_of tasks ends carries some =
           let told = told_of_attempt state start_at s link (state (link_of x))
-          (start_at (link_of x)) (down_state x.exchange.down)
-          (attempt_so_far state start_at s p q link ahead x.exchange.down x.exchange.up
+          (start_at (link_of x)) (down_state x.down)
+          (attempt_so_far state start_at s p q link ahead x.down x.exchange.up
           x.exchange.duplex so_far) in
           record {
             came = p.came;
@@ -172,14 +172,14 @@ module _ {L : Type 0} (state : L → LinkState) (start_at : L → LinkStart) whe
   module _ (tasks ends : ℕ) (s : Origin) (link link' : LinkState) (ahead ahead' : List ℕ)
       (old new : H1Exchange L) (h : HasCounted state start_at tasks ends s link ahead old)
       (result : Step)
-      (went : over.Turns (DownHolds link' ahead' new.exchange.down s)
+      (went : over.Turns (DownHolds link' ahead' new.down s)
       (λ p e. ClientBlames s p link' e)
-      (λ p left e. ClientRefuses s p link' new.exchange.down.told left e)
-      (λ p e. ClientBlames s p link' e ⊎ CannotEnd s p new.exchange.down.told e)
+      (λ p left e. ClientRefuses s p link' new.down.told left e)
+      (λ p e. ClientBlames s p link' e ⊎ CannotEnd s p new.down.told e)
       (UpHolds state start_at new.exchange.up s)
       (Blames state start_at new.exchange.up s) h.under_way.down h.under_way.up
       (core_in state start_at old) (core_in state start_at new) result)
-      (tells : over.TellsOn old.exchange.down.told new.exchange.down.told result)
+      (tells : over.TellsOn old.down.told new.down.told result)
     where
       -- the tasks of a turn that counts so
       carried : (more_tasks more_ends : ℕ)
@@ -192,7 +192,7 @@ module _ {L : Type 0} (state : L → LinkState) (start_at : L → LinkStart) whe
 
       -- a turn behind which the exchange goes on
       on : over.GoesOn new.exchange.duplex
-          → new.exchange.down.told.errors ≡ old.exchange.down.told.errors
+          → new.down.told.errors ≡ old.down.told.errors
           → (more_tasks more_ends : ℕ)
           → CountsAs (core_in state start_at old) (core_in state start_at new) more_tasks more_ends
           → HasCounted state start_at (more_tasks + tasks) (more_ends + ends) s link' ahead' new
@@ -223,10 +223,10 @@ module _ {L : Type 0} (state : L → LinkState) (start_at : L → LinkStart) whe
         where
           by : (r : Step)
               → over.ComesTo (λ p e. ClientBlames s p link' e)
-              (λ p left e. ClientRefuses s p link' new.exchange.down.told left e)
-              (λ p e. ClientBlames s p link' e ⊎ CannotEnd s p new.exchange.down.told e)
+              (λ p left e. ClientRefuses s p link' new.down.told left e)
+              (λ p e. ClientBlames s p link' e ⊎ CannotEnd s p new.down.told e)
               (Blames state start_at new.exchange.up s) (core_in state start_at new) went.p went.q r
-              → over.TellsOn old.exchange.down.told new.exchange.down.told r
+              → over.TellsOn old.down.told new.down.told r
               → CountsOn state start_at tasks ends s link' ahead' old new r
           by step.Moved goes_on same = on goes_on same
           by (step.Waited pause) goes_on same =

@@ -682,11 +682,11 @@ module _ {L : Type 0} (state : L → LinkState) (start_at : L → LinkStart) whe
   -- an exchange that finished, and what it leaves
   pub finished_of : (s : Origin) (p : DownPast) (q : UpPast) (link : LinkState) (ahead : List ℕ)
       (x : H1Exchange L) → x.exchange.stage ≡ stage.Bodies
-      → SoFar (DownHolds link ahead x.exchange.down s) (UpHolds state start_at x.exchange.up s)
+      → SoFar (DownHolds link ahead x.down s) (UpHolds state start_at x.exchange.up s)
       (Blames state start_at x.exchange.up s)
-      (core_of state start_at x.exchange.duplex x.exchange.down x.exchange.up) p q
+      (core_of state start_at x.exchange.duplex x.down x.exchange.up) p q
       → AllPass s (queued p)
-      → Finishes (core_of state start_at x.exchange.duplex x.exchange.down x.exchange.up) p q
+      → Finishes (core_of state start_at x.exchange.duplex x.down x.exchange.up) p q
       → IsFinished state start_at s (passed_by p q) ahead x
       ⊎ IsOverEarly state start_at s (passed_by p q) ahead x
   finished_of s p q link ahead x is f passes finishes =
@@ -705,12 +705,12 @@ module _ {L : Type 0} (state : L → LinkState) (start_at : L → LinkStart) whe
       whole : list_any is_end q.read ≡ true
           → IsFinished state start_at s (passed_by p q) ahead x
       whole ends =
-          let relayed = relayed_of state start_at s p q link ahead x.exchange.down x.exchange.up
+          let relayed = relayed_of state start_at s p q link ahead x.down x.exchange.up
           x.exchange.duplex f passes finishes ends in
           record {
             relayed = relayed;
-            answers = answers_own s p link ahead x.exchange.down.session f.down.passed.client;
-            leaves = leaves_of state start_at s p q link ahead x.exchange.down x.exchange.up
+            answers = answers_own s p link ahead x.down.session f.down.passed.client;
+            leaves = leaves_of state start_at s p q link ahead x.down x.exchange.up
                 x.exchange.duplex f passes (may_keep x) relayed.n relayed.whole client_keeps;
             faultless = faultless;
             keeps = λ serves calm.
@@ -719,23 +719,23 @@ module _ {L : Type 0} (state : L → LinkState) (start_at : L → LinkStart) whe
                 may_keep_at at x.exchange.duplex && may_keep_client x.exchange.up.inner.client
                 ≡ true)
                 (sym is)
-                (keeps_of state start_at s p q link ahead x.exchange.down x.exchange.up
+                (keeps_of state start_at s p q link ahead x.down x.exchange.up
                 x.exchange.duplex f passes finishes ends serves calm);
           }
 
       early : list_any is_end q.read ≡ false
           → IsOverEarly state start_at s (passed_by p q) ahead x
       early none = record {
-        early = early_of state start_at s p q link ahead x.exchange.down x.exchange.up
+        early = early_of state start_at s p q link ahead x.down x.exchange.up
             x.exchange.duplex f passes finishes none;
-        answers = answers_own s p link ahead x.exchange.down.session f.down.passed.client;
-        ended = request_ends state start_at s p q link ahead x.exchange.down x.exchange.up
+        answers = answers_own s p link ahead x.down.session f.down.passed.client;
+        ended = request_ends state start_at s p q link ahead x.down x.exchange.up
             x.exchange.duplex f passes;
-        behind = request_behind state start_at s p q link ahead x.exchange.down x.exchange.up
+        behind = request_behind state start_at s p q link ahead x.down x.exchange.up
             x.exchange.duplex f passes;
         closes = f.up.closes;
         unkept = elim (decide (may_keep x)) [
-          | inl kept ↦ absurd (unkept_early state start_at s p q link ahead x.exchange.down
+          | inl kept ↦ absurd (unkept_early state start_at s p q link ahead x.down
               x.exchange.up x.exchange.duplex f passes finishes none (client_keeps kept))
           | inr dropped ↦ dropped
         ];
@@ -744,17 +744,17 @@ module _ {L : Type 0} (state : L → LinkState) (start_at : L → LinkStart) whe
   -- an exchange that failed, and the session of its client that this leaves
   pub fails_with : (s : Origin) (p : DownPast) (q : UpPast) (link : LinkState) (ahead : List ℕ)
       (x : H1Exchange L)
-      → SoFar (DownHolds link ahead x.exchange.down s) (UpHolds state start_at x.exchange.up s)
+      → SoFar (DownHolds link ahead x.down s) (UpHolds state start_at x.exchange.up s)
       (Blames state start_at x.exchange.up s)
-      (core_of state start_at x.exchange.duplex x.exchange.down x.exchange.up) p q
-      → (e : Error) → TellsError x.exchange.down.told e
+      (core_of state start_at x.exchange.duplex x.down x.exchange.up) p q
+      → (e : Error) → TellsError x.down.told e
       → HasReason (λ r e. ClientBlames s r link e)
-      (λ r left e. ClientRefuses s r link x.exchange.down.told left e)
-      (λ r e. ClientBlames s r link e ⊎ CannotEnd s r x.exchange.down.told e)
-      (Blames state start_at x.exchange.up s) (down_state x.exchange.down) p q e
+      (λ r left e. ClientRefuses s r link x.down.told left e)
+      (λ r e. ClientBlames s r link e ⊎ CannotEnd s r x.down.told e)
+      (Blames state start_at x.exchange.up s) (down_state x.down) p q e
       → FailsWith state start_at s (passed_by p q) link ahead x e
   fails_with s p q link ahead x f e tells reason =
-      let down = x.exchange.down in
+      let down = x.down in
       let fails = fails_here state start_at s p q link ahead down x.exchange.up x.exchange.duplex f
       e tells reason in
       record {

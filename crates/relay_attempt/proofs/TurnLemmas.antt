@@ -48,13 +48,13 @@ module _ {L : Type 0} (state : L → LinkState) (start_at : L → LinkStart) whe
   abbrev pub under_way : (s : Origin) (p : DownPast) (q : UpPast) (link : LinkState)
       (ahead : List ℕ)
       (x : H1Exchange L)
-      → over.IsUnderWay (DownHolds link ahead x.exchange.down s)
+      → over.IsUnderWay (DownHolds link ahead x.down s)
       (UpHolds state start_at x.exchange.up s) (Blames state start_at x.exchange.up s)
-      (core_of state start_at x.exchange.duplex x.exchange.down x.exchange.up) p q
-      → x.exchange.down.told.errors ≡ 0
+      (core_of state start_at x.exchange.duplex x.down x.exchange.up) p q
+      → x.down.told.errors ≡ 0
       → IsUnderWay state start_at s (passed_by p q) link ahead x
   under_way s p q link ahead x under untold = record {
-    order = order_so_far state start_at s p q link ahead x.exchange.down x.exchange.up
+    order = order_so_far state start_at s p q link ahead x.down x.exchange.up
         x.exchange.duplex under.so_far (under.so_far.down.tasks.none untold);
     untold = untold;
     down = p;
@@ -70,24 +70,24 @@ module _ {L : Type 0} (state : L → LinkState) (start_at : L → LinkStart) whe
   pub turned : (s : Origin) (link : LinkState) (ahead : List ℕ) (before : DownPast)
       (up_before : UpPast) (was : State) (x : H1Exchange L) (result : Step)
       → (result ≡ step.Finished → x.exchange.stage ≡ stage.Bodies)
-      → over.Turns (DownHolds link ahead x.exchange.down s) (λ p e. ClientBlames s p link e)
-      (λ p left e. ClientRefuses s p link x.exchange.down.told left e)
-      (λ p e. ClientBlames s p link e ⊎ CannotEnd s p x.exchange.down.told e)
+      → over.Turns (DownHolds link ahead x.down s) (λ p e. ClientBlames s p link e)
+      (λ p left e. ClientRefuses s p link x.down.told left e)
+      (λ p e. ClientBlames s p link e ⊎ CannotEnd s p x.down.told e)
       (UpHolds state start_at x.exchange.up s)
       (Blames state start_at x.exchange.up s) before up_before was
-      (core_of state start_at x.exchange.duplex x.exchange.down x.exchange.up) result
-      → was.down.told.errors ≡ 0 → over.TellsOn was.down.told x.exchange.down.told result
+      (core_of state start_at x.exchange.duplex x.down x.exchange.up) result
+      → was.down.told.errors ≡ 0 → over.TellsOn was.down.told x.down.told result
       → Turns state start_at s link ahead x result
   turned s link ahead before up_before was x result bodies went untold tells = record {
     passed = passed_by went.p went.q;
     told = told_of_attempt state start_at s link (state (link_of x)) (start_at (link_of x))
-        (down_state x.exchange.down)
-        (attempt_so_far state start_at s went.p went.q link ahead x.exchange.down x.exchange.up
+        (down_state x.down)
+        (attempt_so_far state start_at s went.p went.q link ahead x.down x.exchange.up
         x.exchange.duplex went.so_far);
     comes_to = comes result bodies went.comes_to tells;
   }
     where
-      on : over.GoesOn x.exchange.duplex → x.exchange.down.told.errors ≡ was.down.told.errors
+      on : over.GoesOn x.exchange.duplex → x.down.told.errors ≡ was.down.told.errors
           → IsUnderWay state start_at s (passed_by went.p went.q) link ahead x
       on goes_on same =
           under_way s went.p went.q link ahead x
@@ -95,11 +95,11 @@ module _ {L : Type 0} (state : L → LinkState) (start_at : L → LinkStart) whe
 
       comes : (result : Step) → (result ≡ step.Finished → x.exchange.stage ≡ stage.Bodies)
           → over.ComesTo (λ p e. ClientBlames s p link e)
-          (λ p left e. ClientRefuses s p link x.exchange.down.told left e)
-          (λ p e. ClientBlames s p link e ⊎ CannotEnd s p x.exchange.down.told e)
+          (λ p left e. ClientRefuses s p link x.down.told left e)
+          (λ p e. ClientBlames s p link e ⊎ CannotEnd s p x.down.told e)
           (Blames state start_at x.exchange.up s)
-          (core_of state start_at x.exchange.duplex x.exchange.down x.exchange.up) went.p went.q
-          result → over.TellsOn was.down.told x.exchange.down.told result
+          (core_of state start_at x.exchange.duplex x.down x.exchange.up) went.p went.q
+          result → over.TellsOn was.down.told x.down.told result
           → ComesTo state start_at s (passed_by went.p went.q) link ahead x result
       comes step.Moved bodies goes_on same = on goes_on same
       comes (step.Waited pause) bodies goes_on same = on goes_on same
@@ -112,5 +112,5 @@ module _ {L : Type 0} (state : L → LinkState) (start_at : L → LinkStart) whe
             | inr more ↦ inr (more.0 ∙ ap up untold, more.1)
           ]) why
       comes (step.Failed fail.OutOfMemory) bodies free same =
-          order_so_far state start_at s went.p went.q link ahead x.exchange.down x.exchange.up
+          order_so_far state start_at s went.p went.q link ahead x.down x.exchange.up
           x.exchange.duplex went.so_far (went.so_far.down.tasks.none (same ∙ untold))

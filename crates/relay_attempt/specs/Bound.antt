@@ -37,7 +37,7 @@ pub record IsWithin
 module _ {L : Type 0} (state : L → LinkState) (start_at : L → LinkStart) where
   -- the core of an exchange
   abbrev pub core_in : H1Exchange L → State
-  core_in x = core_of state start_at x.exchange.duplex x.exchange.down x.exchange.up
+  core_in x = core_of state start_at x.exchange.duplex x.down x.exchange.up
 
   -- an exchange is under way in which so many tasks were moved, and so many ends came
   pub record HasCounted (tasks ends : ℕ) (s : Origin) (link : LinkState) (ahead : List ℕ)

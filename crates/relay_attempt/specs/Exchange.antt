@@ -76,15 +76,15 @@ module _ {L : Type 0} (state : L → LinkState) (start_at : L → LinkStart) whe
   pub record IsUnderWay (s : Origin) (p : Passed) (link : LinkState) (ahead : List ℕ)
       (x : H1Exchange L) : Type 0 where
     pub order : IsInOrder s p (state (link_of x)).ended
-    pub untold : x.exchange.down.told.errors ≡ 0
+    pub untold : x.down.told.errors ≡ 0
     pub down : DownPast
     pub up : UpPast
     pub came : down.came ≡ p.came
     pub written : down.written ≡ p.written
     pub got : up.got ≡ p.got
     pub sent : up.sent ≡ p.sent
-    pub holds : over.IsUnderWay (DownHolds link ahead x.exchange.down s) (UpHolds x.exchange.up s)
-        (Blames x.exchange.up s) (core_of x.exchange.duplex x.exchange.down x.exchange.up) down up
+    pub holds : over.IsUnderWay (DownHolds link ahead x.down s) (UpHolds x.exchange.up s)
+        (Blames x.exchange.up s) (core_of x.exchange.duplex x.down x.exchange.up) down up
 
   -- what passed is told by both links, and the client's link tells its faults
   pub record AreTold (s : Origin) (p : Passed) (link peer_link : LinkState) (start : LinkStart)
@@ -102,9 +102,9 @@ module _ {L : Type 0} (state : L → LinkState) (start_at : L → LinkStart) whe
   -- request
   pub record IsFinished (s : Origin) (p : Passed) (ahead : List ℕ) (x : H1Exchange L) : Type 0 where
     pub relayed : IsRelayed s p (state (link_of x)) (start_at (link_of x))
-    pub answers : x.exchange.down.session.writing.request ≡ request_of s.head
+    pub answers : x.down.session.writing.request ≡ request_of s.head
     pub leaves : Leaves s p (state (link_of x)).ended relayed.order ahead
-        (is_body_done x.exchange.down.session.reading) x.exchange.up.closes (may_keep x)
+        (is_body_done x.down.session.reading) x.exchange.up.closes (may_keep x)
     -- a link of which a call failed is not kept
     pub faultless : may_keep x ≡ true
         → (state (link_of x)).faults ≡ (start_at (link_of x)).faults
@@ -118,9 +118,9 @@ module _ {L : Type 0} (state : L → LinkState) (start_at : L → LinkStart) whe
   pub record IsOverEarly (s : Origin) (p : Passed) (ahead : List ℕ) (x : H1Exchange L)
       : Type 0 where
     pub early : EndsEarly s p (state (link_of x)) (start_at (link_of x))
-    pub answers : x.exchange.down.session.writing.request ≡ request_of s.head
-    pub ended : IsTrue (is_body_done x.exchange.down.session.reading) ↔ HasEnded early.order
-    pub behind : is_body_done x.exchange.down.session.reading ≡ true
+    pub answers : x.down.session.writing.request ≡ request_of s.head
+    pub ended : IsTrue (is_body_done x.down.session.reading) ↔ HasEnded early.order
+    pub behind : is_body_done x.down.session.reading ≡ true
         → IsWhole (asked s p) (body_of early.order.pieces) ahead
     pub closes : x.exchange.up.closes ≡ list_any asks_to_close early.order.read
     pub unkept : may_keep x ≡ false
@@ -131,13 +131,13 @@ module _ {L : Type 0} (state : L → LinkState) (start_at : L → LinkStart) whe
   pub record FailsWith (s : Origin) (p : Passed) (link : LinkState) (ahead : List ℕ)
       (x : H1Exchange L) (e : Error) : Type 0 where
     pub why : FailsFor s p link (state (link_of x)) (start_at (link_of x)) e
-    pub answers : x.exchange.down.session.writing.request ≡ request_of s.head
-    pub holds : Holds x.exchange.down.session.writing (queued_in (order_of why)) p.written
+    pub answers : x.down.session.writing.request ≡ request_of s.head
+    pub holds : Holds x.down.session.writing (queued_in (order_of why)) p.written
     pub broken : (fault : Fault)
-        → x.exchange.down.session.writing.output ≡ outgoing.Broken fault
+        → x.down.session.writing.output ≡ outgoing.Broken fault
         → FailsWrite s link fault
     pub down : DownPast
-    pub client : IsClient s down link ahead x.exchange.down.session
+    pub client : IsClient s down link ahead x.down.session
     pub came : down.came ≡ p.came
 
   -- what a turn made of it, by its answer: it goes on; both directions were relayed, or the
@@ -162,7 +162,7 @@ module _ {L : Type 0} (state : L → LinkState) (start_at : L → LinkStart) whe
   -- that can be taken
   abbrev pub SilentIn : LinkState → H1Exchange L → Type 0
   SilentIn link x =
-      over.SilentIn x.exchange.stage (core_of x.exchange.duplex x.exchange.down x.exchange.up) link
+      over.SilentIn x.exchange.stage (core_of x.exchange.duplex x.down x.exchange.up) link
       (state (link_of x))
 
   -- a link of the exchange is silent
@@ -186,6 +186,6 @@ module _ {L : Type 0} (state : L → LinkState) (start_at : L → LinkStart) whe
       → Type 0
   HasMoved branch before after old new =
       over.HasMoved branch
-      (core_of old.exchange.duplex old.exchange.down old.exchange.up)
-      (core_of new.exchange.duplex new.exchange.down new.exchange.up)
+      (core_of old.exchange.duplex old.down old.exchange.up)
+      (core_of new.exchange.duplex new.down new.exchange.up)
       before after (state (link_of old)) (state (link_of new))

@@ -29,7 +29,8 @@ use std::alloc::Global;
 /// A request whose head was read, and its response, over one link to a peer.
 #[derive(Drop)]
 pub struct H1Exchange<L> {
-    pub(crate) exchange: Exchange<ClientSide, Filtered<PeerSide<L>>>,
+    pub(crate) down: ClientSide,
+    pub(crate) exchange: Exchange<Filtered<PeerSide<L>>>,
 }
 
 /// An exchange that was not begun: the link, and why.
@@ -41,8 +42,8 @@ pub struct Unbegun<L> {
 impl<L: ByteLink> H1Exchange<L> {
     /// An exchange for the session's request over that link, which was just handed out. `head` is
     /// the head that is sent, which may differ from the client's in all: the request is framed as
-    /// it says, and the response towards the client as the client's says. Where they frame alike
-    /// a request does not end short, and no task of a response is refused. What the session has kept
+    /// it says, and the response towards the client as the client's says. Where they frame alike a
+    /// request does not end short, and no task of a response is refused. What the session has kept
     /// of the body is put before any turn, as one piece, and with it the end of a body that has
     /// ended: so it is sent from its first byte on, as `head` frames it.
     ///
@@ -61,7 +62,7 @@ impl<L: ByteLink> H1Exchange<L> {
             → IsHandedOut (L.state link) (L.start link) reused → s.reused ≡ reused
             → IsUnderWay L.state L.start s
             (record { came = came; written = []; got = []; sent = [] }) client ahead x) }
-        ensures session { IfOk result (λ x. x.exchange.down.session ≡ session) }
+        ensures session { IfOk result (λ x. x.down.session ≡ session) }
         ensures over { IfOk result (λ x. link_of x ≡ link) }
         ensures link { IfErr result (λ unbegun. unbegun.link ≡ link) }
         ensures refused { IsRefusedFor result
@@ -88,10 +89,10 @@ impl<L: ByteLink> H1Exchange<L> {
             }
         };
         let body_done = session.is_body_done();
-        let client = ClientSide::new(alloc, session);
+        let down = ClientSide::new(alloc, session);
         let upstream = Filtered::new(peer, of_head);
-        let exchange = Exchange::begin(alloc, client, body_done, upstream, Some(first));
-        Ok(H1Exchange { exchange })
+        let exchange = Exchange::begin(alloc, body_done, upstream, Some(first));
+        Ok(H1Exchange { down, exchange })
     }
 
     /// One turn, as in `Exchange::turn`: one write of the request's head, or one branch of the
@@ -110,9 +111,9 @@ impl<L: ByteLink> H1Exchange<L> {
         // What passed is an attempt: each side was given the front of what the other put.
         ensures attempt { (s : Origin) (p : Passed)
             → IsUnderWay L.state L.start s p (F.state client.old) (F.ahead client.old) self.old
-            → IsAttempt (DownHalf s (F.state client.new) self.new.exchange.down.done)
+            → IsAttempt (DownHalf s (F.state client.new) self.new.down.done)
             (UpHalf s (L.start (link_of self.new)) (L.state (link_of self.new)))
-            (down_state self.new.exchange.down) }
+            (down_state self.new.down) }
         // It waits only where a link answered so in this turn.
         ensures waits { result.step ≡ Step.Waited Pause.NotReady
             → WaitRose (F.state client.old) (F.state client.new)
@@ -146,17 +147,17 @@ impl<L: ByteLink> H1Exchange<L> {
         ensures client_start { F.start client.new ≡ F.start client.old }
         ensures peer_start { L.start (link_of self.new) ≡ L.start (link_of self.old) }
         // The client's session still has the head that it had.
-        ensures head { head_of self.new.exchange.down.session.reading
-            ≡ head_of self.old.exchange.down.session.reading }
+        ensures head { head_of self.new.down.session.reading
+            ≡ head_of self.old.down.session.reading }
     {
-        self.exchange.turn(client, schedule)
+        self.exchange.turn(client, &mut self.down, schedule)
     }
 
     /// The session of the request.
     pub fn session(&self) -> &HttpSession
-        ensures { result.now ≡ self.now.exchange.down.session }
+        ensures { result.now ≡ self.now.down.session }
     {
-        self.exchange.down().session()
+        self.down.session()
     }
 
     /// Whether a final head of the response that was handed on asks for the connection to be closed
@@ -188,19 +189,21 @@ impl<L> H1Exchange<L> {
     pub fn into_link(self) -> L
         ensures { result ≡ link_of self }
     {
-        let H1Exchange { exchange } = self;
+        let H1Exchange {
+            down: _down,
+            exchange,
+        } = self;
         exchange.into_up().into_inner().into_link()
     }
 
     /// The session of the request, and the link.
     pub fn into_parts(self) -> (HttpSession, L)
-        ensures session { result.0 ≡ self.exchange.down.session }
+        ensures session { result.0 ≡ self.down.session }
         ensures link { result.1 ≡ link_of self }
     {
-        let H1Exchange { exchange } = self;
-        let (down, up) = exchange.into_parts();
+        let H1Exchange { down, exchange } = self;
         let session = down.into_session();
-        (session, up.into_inner().into_link())
+        (session, exchange.into_up().into_inner().into_link())
     }
 }
 

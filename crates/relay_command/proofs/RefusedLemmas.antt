@@ -252,8 +252,8 @@ own_fits (r ∷ q ∷ own) got gave = absurd gave
 
 -- ---- the turns of a run
 
--- how many bytes the client's link gave up to the end of each attempt that was tried again, of those
--- that were counted so
+-- how many bytes the client's link gave up to the end of each attempt that was tried again, of
+-- those that were counted so
 abbrev pub came_in : (tasks ends : ℕ) (legs : List (Leg ScriptLink))
     → LegsWithin script_state script_start tasks ends legs → ℕ
 came_in tasks ends [] within = 0

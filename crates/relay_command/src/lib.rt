@@ -1,5 +1,5 @@
-//! What the program does: the run of a script, with its report, and the serving of a port for a peer
-//! at another.
+//! What the program does: the run of a script, with its report, and the serving of a port for a
+//! peer at another.
 #![tactic(auto)]
 
 mod announcer;

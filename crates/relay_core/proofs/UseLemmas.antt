@@ -37,6 +37,22 @@ use Rattle.relay_core.proofs.BoolLemmas.{clash, and_left, and_right, not_true}
 use Rattle.relay_core.proofs.KeepLemmas.{up_open, down_open}
 use Rattle.relay_core.proofs.MoveLemmas.{batch-rest, leaves_batch, leaves_piece}
 
+-- ---- a piece
+
+-- a piece that puts a task is one more in the pipe
+pub put_gains : (d : Duplex) (side side' : DownState) (piece : Piece)
+    → PutsOrCalls side side' piece
+    → ReadsInside d side (with_piece_read d side.upgraded piece) side'
+put_gains d side side' piece (inr called) = inr called
+put_gains d side side' piece (inl puts) =
+    inl (by_task (task_put_of side.upgraded piece) refl puts)
+  where
+    by_task : (task : Option HttpTask) → task_put_of side.upgraded piece ≡ task
+        → is_some task ≡ true
+        → GainsTask d.requests.tasks (with_piece_read d side.upgraded piece).requests.tasks
+    by_task None is some = absurd (cc)
+    by_task (Some task) is some = (task, rw is refl)
+
 -- ---- one link, by the answer of its side
 
 module _ (before after : LinkState) where
@@ -103,21 +119,6 @@ module _ (before after : LinkState) where
       → IsUsed before after ⊎ GainsTask old.responses.tasks new.responses.tasks
   brings_gains old new (inl task) = inr task
   brings_gains old new (inr gave) = inl gave.gives.used
-
-  -- a piece that puts a task is one more in the pipe
-  pub put_gains : (d : Duplex) (side side' : DownState) (piece : Piece)
-      → IsUsed before after ⊎ PutsOrCalls side side' piece
-      → IsUsed before after ⊎ ReadsInside d side (with_piece_read d side.upgraded piece) side'
-  put_gains d side side' piece (inl used) = inl used
-  put_gains d side side' piece (inr (inr called)) = inr (inr called)
-  put_gains d side side' piece (inr (inl puts)) =
-      inr (inl (by_task (task_put_of side.upgraded piece) refl puts))
-    where
-      by_task : (task : Option HttpTask) → task_put_of side.upgraded piece ≡ task
-          → is_some task ≡ true
-          → GainsTask d.requests.tasks (with_piece_read d side.upgraded piece).requests.tasks
-      by_task None is some = absurd (cc)
-      by_task (Some task) is some = (task, rw is refl)
 
   -- ---- branches that ask no link
 

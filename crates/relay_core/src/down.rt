@@ -6,7 +6,7 @@ ghost use Rattle.relay_tasks.specs.declared.task.HttpTask.{HttpTask};
 ghost use Rattle.relay_links.specs.Count.{up};
 ghost use Rattle.relay_links.specs.Link.{LinkState, LinkStart};
 ghost use Rattle.relay_core.specs.Down.{DownState, may_read, ReadsPiece, TakesBatch, Writes, Finishes};
-ghost use Rattle.relay_core.specs.Uses.{IsUsed, PutsOrCalls, ReadUses, WriteUses};
+ghost use Rattle.relay_core.specs.Uses.{PutsOrCalls, ReadUses, WriteUses};
 ghost use Rattle.relay_core.specs.Past.{Origin, DownPast, GaveBytes, DownGoes, BatchGoes, put_in, closing_in, error_of_took, error_of_put, error_of_result};
 
 use crate::piece::Piece;
@@ -57,8 +57,8 @@ pub trait Down<C> {
 
     /// Reads a piece of the request and filters it. `idle` says that the request has ended: the
     /// client is then only watched. The end comes with a piece, and `End` is never answered. The
-    /// link is asked once at most: `More` says that it gave bytes in this call, and a piece that it
-    /// was not asked for puts a task, or hooks were called with it: so a filter may leave nothing.
+    /// link is asked once at most: `More` says that it gave bytes in this call. Each piece puts a
+    /// task, or hooks were called with it: so a filter may leave nothing.
     fn read_piece(&mut self, client: &mut C, idle: bool) -> Took<Piece>
         requires { IsTrue (may_read (state self.old)) }
         ensures reads { ReadsPiece (state self.old) (state self.new) result }
@@ -77,8 +77,7 @@ pub trait Down<C> {
         ensures asks { ReadUses (link client.old) (link client.new) result }
         ensures puts { (s : Origin) (p : DownPast) → past self.old client.old s p
             → (piece : Piece) → result ≡ Took.Item piece
-            → IsUsed (link client.old) (link client.new)
-            ⊎ PutsOrCalls (state self.old) (state self.new) piece }
+            → PutsOrCalls (state self.old) (state self.new) piece }
         ensures calm { error_of_took result ≡ None
             → (link client.new).faults ≡ (link client.old).faults };
 

@@ -30,8 +30,8 @@ impl Request {
         })
     }
 
-    /// Lets go of the log and of what the heads have shared, as a next request has no log, and heads
-    /// that have shared nothing.
+    /// Lets go of the log and of what the heads have shared, as a next request has no log, and
+    /// heads that have shared nothing.
     pub(crate) fn make_new(&mut self, alloc: Global) -> Result<()> {
         self.session.seen.log = PhaseLog::new(alloc);
         stands(&self.session)?;

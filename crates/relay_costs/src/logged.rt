@@ -72,8 +72,8 @@ fn before_the_attempt(app: &Defaults, session: &mut Session<NoModules>) -> Resul
     Ok(())
 }
 
-/// The calls up to the end of the request's body, which has no bytes. The head that is sent is a copy
-/// of the client's.
+/// The calls up to the end of the request's body, which has no bytes. The head that is sent is a
+/// copy of the client's.
 fn in_the_attempt(app: &Defaults, session: &mut Session<NoModules>) -> Result<()> {
     stands(session)?;
     let peer = call_upstream_peer(app, session, &mut ())?;

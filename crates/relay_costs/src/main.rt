@@ -1,9 +1,9 @@
-//! What the log of a small request costs: the calls of a GET with a small response by the application
-//! that decides nothing, entered in the log one by one, or with no log.
+//! What the log of a small request costs: the calls of a GET with a small response by the
+//! application that decides nothing, entered in the log one by one, or with no log.
 //!
 //! The first word says which: `logged` or `plain`. The requests are as many as the words behind it.
-//! Counted by callgrind, the difference between runs with two such words and with one is what one request
-//! costs, and of that the difference between both ways is what its entries cost.
+//! Counted by callgrind, the difference between runs with two such words and with one is what one
+//! request costs, and of that the difference between both ways is what its entries cost.
 #![tactic(auto)]
 
 mod heads;

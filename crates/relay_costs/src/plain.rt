@@ -71,8 +71,8 @@ fn before_the_attempt(
     Ok(())
 }
 
-/// The calls up to the end of the request's body, which has no bytes. The head that is sent is a copy
-/// of the client's.
+/// The calls up to the end of the request's body, which has no bytes. The head that is sent is a
+/// copy of the client's.
 fn in_the_attempt(alloc: Global, app: &Defaults, session: &mut Session<NoModules>) -> Result<()> {
     is_ready(session)?;
     let peer = app.upstream_peer(alloc, session, &mut ())?;

@@ -1,5 +1,5 @@
-//! A gateway: it asks for an authorisation, sends each path to its peer, and names itself in what it
-//! forwards (RFC 9110, sections 3.7, 7.6.3 and 15.5.4).
+//! A gateway: it asks for an authorisation, sends each path to its peer, and names itself in what
+//! it forwards (RFC 9110, sections 3.7, 7.6.3 and 15.5.4).
 
 use bytes::Bytes;
 use http_header::{AUTHORIZATION, HeaderValue, VIA};

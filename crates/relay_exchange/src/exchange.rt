@@ -24,10 +24,10 @@ pub(crate) enum Stage {
     Bodies,
 }
 
-/// A request whose head was read, and its response, between two sides.
+/// A request whose head was read, and its response, over the upstream's side. The client's side is
+/// the caller's, and each turn is handed it: so one that borrows is made for a turn alone.
 #[derive(Drop)]
-pub struct Exchange<D, U> {
-    pub(crate) down: D,
+pub struct Exchange<U> {
     pub(crate) up: U,
     pub(crate) duplex: Duplex,
     pub(crate) stage: Stage,
@@ -41,25 +41,18 @@ pub struct Turn {
     pub branch: Option<Branch>,
 }
 
-impl<D, U: Up> Exchange<D, U> {
-    /// An exchange between these sides. The upstream's side holds the head that is sent;
-    /// `body_done` says that the client's body has ended. `replay` is what was read of the request
-    /// before, as one piece and as filters left it, which is put first: an empty one that is not
-    /// the end is not put. It is the end exactly where the request has ended for the peer, which
-    /// it may while the client's body goes on. It takes no memory.
-    pub fn begin(
-        alloc: Global,
-        down: D,
-        body_done: bool,
-        up: U,
-        replay: Option<Piece>,
-    ) -> Exchange<D, U>
+impl<U: Up> Exchange<U> {
+    /// An exchange over that side, which holds the head that is sent; `body_done` says that the
+    /// client's body has ended. `replay` is what was read of the request before, as one piece and
+    /// as filters left it, which is put first: an empty one that is not the end is not put. It is
+    /// the end exactly where the request has ended for the peer, which it may while the client's
+    /// body goes on. It takes no memory.
+    pub fn begin(alloc: Global, body_done: bool, up: U, replay: Option<Piece>) -> Exchange<U>
         ensures fresh { result.duplex ≡ with_replay
             (begins (U.state up).kind body_done result.duplex) (put_first replay) }
         ensures sound { (down : DownState) → down.body_done ≡ body_done
             → IsSound (core result.duplex down (U.state up)) }
         ensures exact { result ≡ record {
-          down = down;
           up = up;
           duplex = result.duplex;
           stage = Stage.Head;
@@ -71,33 +64,36 @@ impl<D, U: Up> Exchange<D, U> {
             None => {}
         }
         Exchange {
-            down,
             up,
             duplex,
             stage: Stage::Head,
         }
     }
 
-    /// One turn: one write of the request's head, or one branch of the duplex. The schedule picks
-    /// the branch; where it names none or one that is not enabled, the first enabled one is taken.
-    /// A branch whose link is silent passes the turn on to the next enabled one, going round; where
-    /// all are silent the answer is `Waited(Silent)`, and nothing moved.
+    /// One turn between that client's side, which is the same for each turn, and the upstream's:
+    /// one write of the request's head, or one branch of the duplex. The schedule picks the branch;
+    /// where it names none or one that is not enabled, the first enabled one is taken. A branch
+    /// whose link is silent passes the turn on to the next enabled one, going round; where all are
+    /// silent the answer is `Waited(Silent)`, and nothing moved.
     ///
     /// `Finished`: both halves have finished. `Failed` with an error says why one of both failed:
     /// nothing more is written or sent from then on. After `Finished` and `Failed` no turn is to
     /// follow.
-    pub fn turn<C, H: Schedule>(&mut self, client: &mut C, schedule: &mut H) -> Turn
-    where
-        D: Down<C>,
+    pub fn turn<C, D: Down<C>, H: Schedule>(
+        &mut self,
+        client: &mut C,
+        down: &mut D,
+        schedule: &mut H,
+    ) -> Turn
         ensures goes { (s : Origin) (p : DownPast) (q : UpPast)
-            → IsUnderWay (D.past self.old.down client.old s) (U.past self.old.up s)
+            → IsUnderWay (D.past down.old client.old s) (U.past self.old.up s)
             (U.blames self.old.up s)
-            (core self.old.duplex (D.state self.old.down) (U.state self.old.up)) p q
-            → Turns (D.past self.new.down client.new s) (D.blames self.new.down client.new s)
-            (D.refuses self.new.down client.new s) (D.cannot_end self.new.down client.new s)
+            (core self.old.duplex (D.state down.old) (U.state self.old.up)) p q
+            → Turns (D.past down.new client.new s) (D.blames down.new client.new s)
+            (D.refuses down.new client.new s) (D.cannot_end down.new client.new s)
             (U.past self.new.up s) (U.blames self.new.up s) p q
-            (core self.old.duplex (D.state self.old.down) (U.state self.old.up))
-            (core self.new.duplex (D.state self.new.down) (U.state self.new.up)) result.step }
+            (core self.old.duplex (D.state down.old) (U.state self.old.up))
+            (core self.new.duplex (D.state down.new) (U.state self.new.up)) result.step }
         // It finishes only where the head was sent.
         ensures bodies { result.step ≡ Step.Finished → self.new.stage ≡ Stage.Bodies }
         // It waits only where a link answered so in this turn.
@@ -110,39 +106,39 @@ impl<D, U: Up> Exchange<D, U> {
         // changed.
         ensures quiet { result.step ≡ Step.Waited Pause.Silent
             → MeetsSilence self.new.stage
-            (core self.new.duplex (D.state self.new.down) (U.state self.new.up))
+            (core self.new.duplex (D.state down.new) (U.state self.new.up))
             (D.link client.old) (D.link client.new) (U.link self.old.up) (U.link self.new.up) }
         // A turn asks one link once, or none. One that moved asked the link of its branch, or it
         // put a task into a pipe, took some out of one, brought an end, or called a hook.
         ensures asks { Asks result.step (D.link client.old) (D.link client.new)
             (U.link self.old.up) (U.link self.new.up) }
         ensures moves { (s : Origin) (p : DownPast) (q : UpPast)
-            → IsUnderWay (D.past self.old.down client.old s) (U.past self.old.up s)
+            → IsUnderWay (D.past down.old client.old s) (U.past self.old.up s)
             (U.blames self.old.up s)
-            (core self.old.duplex (D.state self.old.down) (U.state self.old.up)) p q
+            (core self.old.duplex (D.state down.old) (U.state self.old.up)) p q
             → result.step ≡ Step.Moved
             → HasMoved result.branch
-            (core self.old.duplex (D.state self.old.down) (U.state self.old.up))
-            (core self.new.duplex (D.state self.new.down) (U.state self.new.up))
+            (core self.old.duplex (D.state down.old) (U.state self.old.up))
+            (core self.new.duplex (D.state down.new) (U.state self.new.up))
             (D.link client.old) (D.link client.new) (U.link self.old.up) (U.link self.new.up) }
         // The client's side tells no error but the one that a turn fails with.
-        ensures errors { TellsOn (D.state self.old.down).told (D.state self.new.down).told
+        ensures errors { TellsOn (D.state down.old).told (D.state down.new).told
             result.step }
         // A turn that does not fail takes no call of a hook back.
         ensures calls { says_failed result.step ≡ false
-            → (D.state self.old.down).calls ≤ (D.state self.new.down).calls }
+            → (D.state down.old).calls ≤ (D.state down.new).calls }
         // A turn that does not fail leaves the count of the client's faults.
         ensures calm { says_failed result.step ≡ false
             → (D.link client.new).faults ≡ (D.link client.old).faults }
         ensures client_start { D.start client.new ≡ D.start client.old }
         ensures peer_start { U.start self.new.up ≡ U.start self.old.up }
         // The calls of the client's side leave it as each of them says.
-        ensures lasts { Lasting D.lasts self.old.down self.new.down }
+        ensures lasts { Lasting D.lasts down.old down.new }
     {
-        if self.sends_head::<C>() {
+        if self.sends_head(down) {
             let step = send_head(
                 client,
-                &mut self.down,
+                down,
                 &mut self.up,
                 &mut self.duplex,
                 &mut self.stage,
@@ -150,38 +146,23 @@ impl<D, U: Up> Exchange<D, U> {
             return Turn { step, branch: None };
         }
         self.stage = Stage::Bodies;
-        let (step, branch) = go_round(
-            &mut self.duplex,
-            client,
-            &mut self.down,
-            &mut self.up,
-            schedule,
-        );
+        let (step, branch) = go_round(&mut self.duplex, client, down, &mut self.up, schedule);
         Turn { step, branch }
     }
 
     /// Whether the head is being sent, and the upstream can be written.
-    fn sends_head<C>(&self) -> bool
-    where
-        D: Down<C>,
+    fn sends_head<C, D: Down<C>>(&self, down: &D) -> bool
         ensures { IsTrue result → IsTrue (enabled
-            (core self.now.duplex (D.state self.now.down) (U.state self.now.up)) Branch.UpWrite) }
+            (core self.now.duplex (D.state down.now) (U.state self.now.up)) Branch.UpWrite) }
     {
         match self.stage {
-            Stage::Head => self.duplex.enabled(&self.down, &self.up, Branch::UpWrite),
+            Stage::Head => self.duplex.enabled(down, &self.up, Branch::UpWrite),
             Stage::Bodies => false,
         }
     }
 }
 
-impl<D, U> Exchange<D, U> {
-    /// The client's side.
-    pub fn down(&self) -> &D
-        ensures { result.now ≡ self.now.down }
-    {
-        &self.down
-    }
-
+impl<U> Exchange<U> {
     /// The upstream's side.
     pub fn up(&self) -> &U
         ensures { result.now ≡ self.now.up }
@@ -199,58 +180,12 @@ impl<D, U> Exchange<D, U> {
             Stage::Bodies => self.duplex.upstream_may_keep(),
         }
     }
-}
 
-impl<D, U> Exchange<D, U> {
-    /// The exchange with that client's side in the place of its own, and its own. All else stays:
-    /// so an exchange is held between turns without what its client's side borrows, and its past
-    /// is what it was wherever the sides' pasts are. It takes no memory.
-    pub fn replace_down<E>(self, down: E) -> (Exchange<E, U>, D)
-        ensures exchange { result.0 ≡ record {
-          down = down;
-          up = self.up;
-          duplex = self.duplex;
-          stage = self.stage;
-        } }
-        ensures down { result.1 ≡ self.down }
-    {
-        let Exchange {
-            down: own,
-            up,
-            duplex,
-            stage,
-        } = self;
-        let exchange = Exchange {
-            down,
-            up,
-            duplex,
-            stage,
-        };
-        (exchange, own)
-    }
-
-    /// Both sides.
-    pub fn into_parts(self) -> (D, U)
-        ensures down { result.0 ≡ self.down }
-        ensures up { result.1 ≡ self.up }
-    {
-        let Exchange {
-            down,
-            up,
-            duplex: _duplex,
-            stage: _,
-        } = self;
-        (down, up)
-    }
-}
-
-impl<D: Drop, U> Exchange<D, U> {
     /// The upstream's side alone.
     pub fn into_up(self) -> U
         ensures { result ≡ self.up }
     {
         let Exchange {
-            down: _down,
             up,
             duplex: _duplex,
             stage: _,

@@ -55,8 +55,8 @@ CanBeSent head = (e : Error)
 module _ {L : Type 0} (state : L → LinkState) (start_at : L → LinkStart) where
   -- a request whose calls changed nothing, whose client gave the front of a valid request of a form
   -- that is relayed and that can be sent, and then was still, and the peer of whose last attempt
-  -- gave the front of a valid response and ended only behind it, with no fault: it is served without
-  -- an error, or unfinished, also where turns or memory ran out in the hooks of its end
+  -- gave the front of a valid response and ended only behind it, with no fault: it is served
+  -- without an error, or unfinished, also where turns or memory ran out in the hooks of its end
   abbrev pub NeutralIsWhole : Type 0
   NeutralIsWhole = (s : Start) (w : World) (before after : Option (List (Returned L)))
       (told_before told_after : Option (List Fault)) (had has : Option (List Offer))

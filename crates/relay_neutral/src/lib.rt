@@ -6,9 +6,9 @@ ghost use Rattle.relay_neutral.specs.Neutral.{DefaultsAreNeutral, NeutralIsWhole
 
 use relay_links::ByteLink;
 
-/// A request whose calls changed nothing is served without an error, or unfinished for want of turns
-/// or memory, where the client gives a whole request and then is still, the peer gives a whole
-/// response that is relayed, and no call of a link failed, nor of the connector.
+/// A request whose calls changed nothing is served without an error, or unfinished for want of
+/// turns or memory, where the client gives a whole request and then is still, the peer gives a
+/// whole response that is relayed, and no call of a link failed, nor of the connector.
 pub fn neutral_is_whole<L: ByteLink>()
     ensures { NeutralIsWhole L.state L.start }
 {}

@@ -163,8 +163,8 @@ fn took<M: HttpModule + Drop, K: Drop, L: ByteLink, C: Drop>(
     ended(calls, session, outcome, attempts, Work::USED)
 }
 
-/// Whether the client may ask for more behind a response that was written out: its request lets it, and
-/// the response is over and does not close the connection.
+/// Whether the client may ask for more behind a response that was written out: its request lets it,
+/// and the response is over and does not close the connection.
 fn may_ask_again(session: &HttpSession) -> bool
     ensures { result ≡ may_ask_again session.now }
 {

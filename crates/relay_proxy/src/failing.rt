@@ -106,8 +106,8 @@ enum Behind {
 }
 
 /// What follows the last of so many attempts, which failed with that error, as it was treated.
-/// Another one may where the error is marked so and the request has made fewer than `most`, and does
-/// where its session stands so that another may begin with it.
+/// Another one may where the error is marked so and the request has made fewer than `most`, and
+/// does where its session stands so that another may begin with it.
 fn behind_treated(most: usize, made: usize, error: &Error, session: &HttpSession) -> Behind
     ensures repeats { result ≡ Behind.Repeats
         → MayTry most made error.now × (may_begin_again session.now ≡ true) }

@@ -67,8 +67,8 @@ pub(crate) fn settle<K: Connector, C: Drop>(connector: &mut K, phase: &mut Phase
     }
 }
 
-/// Ends a request that is to be closed, or goes on to another attempt or to what its client is owed:
-/// its link goes back.
+/// Ends a request that is to be closed, or goes on to another attempt or to what its client is
+/// owed: its link goes back.
 fn close<K: Connector, C: Drop>(connector: &mut K, phase: &mut Phase<K::Byte, C>)
     requires closing { is_closing phase.old ≡ true }
     requires held { links_held K.Byte.state K.Byte.start phase.old ≤ K.out connector.old }

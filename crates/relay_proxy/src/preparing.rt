@@ -84,7 +84,8 @@ fn sent_of<SV: ProxyHttp>(
     context: &mut SV::CTX,
     client: &mut HttpSession,
 ) -> Result<RequestHeader>
-    ensures makes { MakesHead (allowed_by (SV.allows app.now) SV.Modules.allows) calls.old client.old
+    ensures makes { MakesHead (allowed_by (SV.allows app.now) SV.Modules.allows) calls.old
+        client.old
         (SV.mark_of app.now context.old) calls.new client.new (SV.mark_of app.now context.new)
         result }
     ensures at { calls.new.at ≡ calls.old.at }
@@ -238,7 +239,7 @@ fn hold<L: ByteLink, C: Drop>(alloc: Global, attempt: Attempt<L, C>) -> Next<L, 
     ensures run { (s : Start) (p : Passed) (w : World) → TellsClient s p w → IsInOrder s p
         → w.client.faults ≡ s.faults → IsRelaying L.state L.start s p w attempt
         → Advances {C = C} L.state L.start s w result.phase }
-    ensures calls { BeginsCalls attempt.context attempt.exchange.exchange.down.session
+    ensures calls { BeginsCalls attempt.context attempt.exchange.down.session
         result.phase }
     ensures cause { (w x : World) (context : C) (session : Box HttpSession) (link : L)
         → HasCause L.state L.start w x (Phase.Prepare context session link attempt.lease)

@@ -201,11 +201,11 @@ impl<SV: ProxyHttp, K: Connector, P: Purger> HttpProxy<SV, K, P> {
 
     /// Takes one turn of a request: one call of the link that it waits for, one verdict on a head,
     /// one call of a hook, one of the connector with that of `connected_to_upstream` behind the
-    /// link that it gave, or of `fail_to_connect` where it gave none, one of the purger with that of
-    /// `purge_response_filter` behind its answer, or one branch of the duplex.
-    /// In the duplex the schedule picks the branch; where it names none or one that cannot be
-    /// taken, the first that can is taken. A branch whose link is silent passes the turn on to the
-    /// next, going round; where all are silent the answer is `Waited(Silent)`.
+    /// link that it gave, or of `fail_to_connect` where it gave none, one of the purger with that
+    /// of `purge_response_filter` behind its answer, or one branch of the duplex. In the duplex the
+    /// schedule picks the branch; where it names none or one that cannot be taken, the first that
+    /// can is taken. A branch whose link is silent passes the turn on to the next, going round;
+    /// where all are silent the answer is `Waited(Silent)`.
     ///
     /// Once a request that was served has ended, the hooks of its end are called, one a turn, and
     /// the answer is `Ended` behind the last of them.

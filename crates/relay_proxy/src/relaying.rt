@@ -139,7 +139,7 @@ fn close_finished<M: HttpModule + Drop, K: Drop, D: ByteLink, U, L: ByteLink, C:
     ensures calls { (a : Box (Attempt L C)) → phase.old ≡ Phase.Relay a
         → calls.new ≡ closed_with
         (record calls.old { at = At.Closing a.value.context (begun None) })
-        a.value.exchange.exchange.down.session None }
+        a.value.exchange.down.session None }
     ensures leaves { (a : Box (Attempt L C)) → phase.old ≡ Phase.Relay a
         → LeavesLink (link_of a.value.exchange) a.value.lease phase.new }
     ensures over { is_over phase.new ≡ true }
@@ -180,9 +180,9 @@ fn leave_failed<L: ByteLink, C: Drop>(
         → let link = link_of a.value.exchange in
         IsLeased s p (L.state link) (L.start link) a.value.lease
         → LeavesBy s p w.client w.ahead (L.state link) (L.start link)
-        a.value.exchange.exchange.down.session why → Advances {C = C} L.state L.start s w phase.new }
+        a.value.exchange.down.session why → Advances {C = C} L.state L.start s w phase.new }
     ensures calls { (a : Box (Attempt L C)) → phase.old ≡ Phase.Relay a
-        → BreaksOff a.value.context a.value.exchange.exchange.down.session phase.new }
+        → BreaksOff a.value.context a.value.exchange.down.session phase.new }
     ensures owes { result.step ≡ RunStep.Moved → OwesAnswer phase.new }
     ensures step { (result.step ≡ RunStep.Moved) ⊎ (result.step ≡ RunStep.Ended) }
     ensures held { (a : Box (Attempt L C)) → phase.old ≡ Phase.Relay a
@@ -374,8 +374,8 @@ fn turn_over<D: ByteLink, U: Drop, L: ByteLink, H: Schedule>(
         → (D.state client.new.link).faults ≡ (D.state client.old.link).faults }
     ensures peer_start { L.start (link_of exchange.new)
         ≡ L.start (link_of exchange.old) }
-    ensures head { head_of exchange.new.exchange.down.session.reading
-        ≡ head_of exchange.old.exchange.down.session.reading }
+    ensures head { head_of exchange.new.down.session.reading
+        ≡ head_of exchange.old.down.session.reading }
     ensures kept { client.new.kept ≡ client.old.kept }
     ensures client_start { D.start client.new.link ≡ D.start client.old.link }
 {

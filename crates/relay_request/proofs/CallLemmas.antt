@@ -252,7 +252,8 @@ counted_from old mid new work same counts =
 -- ---- where an error may be treated
 
 -- none was so far, and it may be there
-breaks_untreated : {K X : Type 0} (a : At K X) (log : List LogEntry) (error : Error) (here : Station)
+breaks_untreated : {K X : Type 0} (a : At K X) (log : List LogEntry) (error : Error)
+    (here : Station)
     → treated_at a ≡ None → IsTrue (may_break here) → BreaksAt a log error here
 breaks_untreated (at.Kept kept) log error here none may = may
 breaks_untreated (at.Opening there) log error here none may = may
@@ -321,7 +322,8 @@ repeats_at : (treated : Error) (seen : Seen) → may_retry treated.retry ≡ tru
     → leads.treated_at (may_follow treated seen) ≡ station.repeatable
 repeats_at treated seen marked open_to kept =
     let lost = is_truncated seen.downstream.reading in
-    ap (λ (b : Bool). leads.treated_at (b && (not (has_head seen.downstream.writing.place) && not lost)))
+    ap (λ (b : Bool). leads.treated_at
+    (b && (not (has_head seen.downstream.writing.place) && not lost)))
     marked
     ∙ ap (λ (b : Bool). leads.treated_at (not b && not lost)) open_to
     ∙ ap (λ (b : Bool). leads.treated_at (not b)) kept
@@ -398,17 +400,18 @@ module _ {C M K : Type 0} (allows : Standing → LogEntry → Type 0) (mark_of :
       (seen_with d left) (mark_of context')
       → IsOpening allows mark_of c context client tries
       → IsBreaking allows mark_of d context' left error
-  breaks_more c d context context' client left tries which to error untreated before may turn o = record {
-    from = o.from;
-    walks = walks_more c d context context' client left o.from turn.e turn.calls o.walks;
-    at = to;
-    order = order_more c d (station_at c.at) to turn.e turn.calls.log turn.order o.order;
-    breaks = breaks_untreated d.at (log_of d) error to untreated may;
-    again = never_again d.at left to untreated;
-    viewed = never_viewed d.at left (log_of d) error untreated;
-    unended = unended_more (log_of c) (log_of d) turn.e which turn.calls.log turn.hook before
-        o.unended;
-  }
+  breaks_more c d context context' client left tries which to error untreated before may turn o =
+      record {
+        from = o.from;
+        walks = walks_more c d context context' client left o.from turn.e turn.calls o.walks;
+        at = to;
+        order = order_more c d (station_at c.at) to turn.e turn.calls.log turn.order o.order;
+        breaks = breaks_untreated d.at (log_of d) error to untreated may;
+        again = never_again d.at left to untreated;
+        viewed = never_viewed d.at left (log_of d) error untreated;
+        unended = unended_more (log_of c) (log_of d) turn.e which turn.calls.log turn.hook before
+            o.unended;
+      }
 
   -- or it may behind none
   pub breaks_same : (c d : Calls M K C) (context context' : C) (client left : HttpSession)
@@ -417,44 +420,47 @@ module _ {C M K : Type 0} (allows : Standing → LogEntry → Type 0) (mark_of :
       → IsTrue (may_break (station_at c.at))
       → IsOpening allows mark_of c context client tries
       → IsBreaking allows mark_of d context' left error
-  breaks_same c d context context' client left tries error same stays still untreated may o = record {
-    from = o.from;
-    walks = subst (λ (x : Calls M K C). Walk allows o.from (log_of x)
-        (standing None false (moment (seen_with x left) (mark_of context')))) (sym same)
-        (subst (λ (x : HttpSession). Walk allows o.from (log_of c)
-        (standing None false (moment (seen_with c x) (mark_of context')))) (sym stays)
-        (subst (λ (n : ℕ). Walk allows o.from (log_of c)
-        (standing None false (moment (seen_with c client) n))) (sym still) o.walks));
-    at = station_at c.at;
-    order = subst (λ (x : Calls M K C). Accepts station.accepted (log_of x) (station_at c.at))
-        (sym same) o.order;
-    breaks = breaks_untreated d.at (log_of d) error (station_at c.at) untreated may;
-    again = never_again d.at left (station_at c.at) untreated;
-    viewed = never_viewed d.at left (log_of d) error untreated;
-    unended = subst (λ (x : Calls M K C). IsUnended (log_of x)) (sym same) o.unended;
-  }
+  breaks_same c d context context' client left tries error same stays still untreated may o =
+      record {
+        from = o.from;
+        walks = subst (λ (x : Calls M K C). Walk allows o.from (log_of x)
+            (standing None false (moment (seen_with x left) (mark_of context')))) (sym same)
+            (subst (λ (x : HttpSession). Walk allows o.from (log_of c)
+            (standing None false (moment (seen_with c x) (mark_of context')))) (sym stays)
+            (subst (λ (n : ℕ). Walk allows o.from (log_of c)
+            (standing None false (moment (seen_with c client) n))) (sym still) o.walks));
+        at = station_at c.at;
+        order = subst (λ (x : Calls M K C). Accepts station.accepted (log_of x) (station_at c.at))
+            (sym same) o.order;
+        breaks = breaks_untreated d.at (log_of d) error (station_at c.at) untreated may;
+        again = never_again d.at left (station_at c.at) untreated;
+        viewed = never_viewed d.at left (log_of d) error untreated;
+        unended = subst (λ (x : Calls M K C). IsUnended (log_of x)) (sym same) o.unended;
+      }
 
   -- behind the call with which it goes out the exchange is under way
-  pub relays_more : {L : Type 0} (c d : Calls M K C) (context context' : C) (client left : HttpSession)
+  pub relays_more : {L : Type 0} (c d : Calls M K C) (context context' : C)
+      (client left : HttpSession)
       (tries : List AttemptRecord) (which : Hook) (a : Attempt L C) → d.at ≡ at.Linked
       → begins_end which ≡ false → a.context ≡ context'
-      → a.exchange.exchange.down.session ≡ left
+      → a.exchange.down.session ≡ left
       → Turns allows which (station_at c.at) station.sent QueuesNothing (seen_with c client)
       (mark_of context) (seen_with d left) (mark_of context')
       → IsOpening allows mark_of c context client tries → IsRelayingCalls allows mark_of d a
-  relays_more c d context context' client left tries which a linked before same stays turn o = record {
-    first = left;
-    from = o.from;
-    walks = subst (λ (x : C). Walk allows o.from (log_of d)
-        (standing None false (moment (seen_with d left) (mark_of x)))) (sym same)
-        (walks_more c d context context' client left o.from turn.e turn.calls o.walks);
-    order = order_more c d (station_at c.at) station.sent turn.e turn.calls.log turn.order o.order;
-    head = ap (λ (x : HttpSession). head_of x.reading) (sym stays);
-    unanswered = ap (λ (x : Writing). has_head x.place) turn.queued.same ∙ o.unanswered;
-    unended = unended_more (log_of c) (log_of d) turn.e which turn.calls.log turn.hook before
-        o.unended;
-    linked = linked;
-  }
+  relays_more c d context context' client left tries which a linked before same stays turn o =
+      record {
+        first = left;
+        from = o.from;
+        walks = subst (λ (x : C). Walk allows o.from (log_of d)
+            (standing None false (moment (seen_with d left) (mark_of x)))) (sym same)
+            (walks_more c d context context' client left o.from turn.e turn.calls o.walks);
+        order = order_more c d (station_at c.at) station.sent turn.e turn.calls.log turn.order o.order;
+        head = ap (λ (x : HttpSession). head_of x.reading) (sym stays);
+        unanswered = ap (λ (x : Writing). has_head x.place) turn.queued.same ∙ o.unanswered;
+        unended = unended_more (log_of c) (log_of d) turn.e which turn.calls.log turn.hook before
+            o.unended;
+        linked = linked;
+      }
 
   -- the error of an attempt was treated, and is to be answered
   pub treated_breaks : (c d : Calls M K C) (context context' : C) (client left : HttpSession)
@@ -699,12 +705,14 @@ module _ {L C M K : Type 0} (allows : Standing → LogEntry → Type 0) (mark_of
   unopened_calls calls (Close link lease keep outcome) none is = absurd is
   unopened_calls calls (Answer session owed attempts) none is =
       uncalled_for allows mark_of calls session.value owed none is
-  unopened_calls calls (Ended outcome attempts) none is = uncalled_end allows mark_of calls outcome none is
+  unopened_calls calls (Ended outcome attempts) none is = uncalled_end allows mark_of calls outcome
+      none is
 
   -- the exchange has begun, for the calls so far, with that context and that session
-  pub begun_exchange : (calls : Calls M K C) (context : C) (session : HttpSession) (next : Phase L C)
+  pub begun_exchange : (calls : Calls M K C) (context : C) (session : HttpSession)
+      (next : Phase L C)
       → BeginsCalls context session next
-      → ((a : Attempt L C) → a.context ≡ context → a.exchange.exchange.down.session ≡ session
+      → ((a : Attempt L C) → a.context ≡ context → a.exchange.down.session ≡ session
       → IsRelayingCalls allows mark_of calls a)
       → (at : Station) × IsLogged allows (log_of calls) at → CallsSoFar allows mark_of calls next
   begun_exchange calls context session ReadHead begins relays logged = absurd begins
@@ -742,11 +750,14 @@ module _ {L C M K : Type 0} (allows : Standing → LogEntry → Type 0) (mark_of
       subst (λ (k : Phase L C). CallsSoFar allows mark_of calls k) (sym does.0) so_far
   settled_calls calls (Relay a) settled before after does so_far =
       subst (λ (k : Phase L C). CallsSoFar allows mark_of calls k) (sym does.0) so_far
-  settled_calls calls (Broken context session link lease keep error) settled before after does so_far =
+  settled_calls calls (Broken context session link lease keep error) settled before after does
+      so_far =
       subst (λ (k : Phase L C). CallsSoFar allows mark_of calls k) (sym does.0) so_far
-  settled_calls calls (Again context session link lease keep error) settled before after does so_far =
+  settled_calls calls (Again context session link lease keep error) settled before after does
+      so_far =
       subst (λ (k : Phase L C). CallsSoFar allows mark_of calls k) (sym does.1)
-      (tried_calls allows mark_of calls context session.value (tries_in lease) does.0 so_far.0 so_far.1)
+      (tried_calls allows mark_of calls context session.value (tries_in lease) does.0 so_far.0
+      so_far.1)
   settled_calls calls (Fail link lease keep session error) settled before after does so_far =
       subst (λ (k : Phase L C). CallsSoFar allows mark_of calls k) (sym does.1) so_far
   settled_calls calls (Answer session owed attempts) settled before after does so_far =

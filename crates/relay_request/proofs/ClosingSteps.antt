@@ -218,7 +218,8 @@ pub last_app : {K : Type 0} (app : Standing → LogEntry → Type 0)
     (old : Seen) (before : ℕ) (new : Seen) (behind : ℕ) (to : Place K)
     → TurnsOn (IsAllowed app modules) start goes_back from old before new behind to
     → TurnsOn (IsAllowed app others) start goes_back from old before new behind to
-last_app app modules others start goes_back (place.At (stage.Failing error)) old before new behind to
+last_app app modules others start goes_back (place.At (stage.Failing error)) old before new behind
+    to
     turns =
     turns_app app modules others hook.FailToProxy refl start (stage.Failing error) old before new
     behind to turns
@@ -228,13 +229,15 @@ last_app app modules others start goes_back (place.At (stage.Told told)) old bef
     behind to turns
 last_app app modules others start goes_back (place.At (stage.Reporting told)) old before new behind
     to turns =
-    turns_app app modules others hook.RequestSummary refl start (stage.Reporting told) old before new
+    turns_app app modules others hook.RequestSummary refl start (stage.Reporting told) old before
+    new
     behind to turns
 last_app app modules others start goes_back (place.At (stage.Ending why)) old before new behind to
     turns =
     turns_app app modules others hook.Logging refl start (stage.Ending why) old before new behind to
     turns
-last_app app modules others start true (place.At (stage.Logged why)) old before new behind to turns =
+last_app app modules others start true (place.At (stage.Logged why)) old before new behind to turns
+    =
     turns_app app modules others hook.PersistConnectionContext refl start (stage.Logged why) old
     before new behind to turns
 last_app app modules others start false (place.At (stage.Logged why)) old before new behind to turns
@@ -260,7 +263,8 @@ pub last_counts : {C M K : Type 0} (allows : Standing → LogEntry → Type 0) (
     (work : Work) → calls_next from goes_back ≡ true
     → TurnsOn allows start goes_back from old.session.seen before new.session.seen behind to
     → work ≡ (if is_lost to then NONE else CALLED) → CountsCalls old new work
-last_counts allows goes_back start (place.At (stage.Failing error)) old new before behind to work calls
+last_counts allows goes_back start (place.At (stage.Failing error)) old new before behind to work
+    calls
     turns is =
     counts_turn allows hook.FailToProxy start (stage.Failing error) old new before behind to work
     turns is
@@ -270,16 +274,20 @@ last_counts allows goes_back start (place.At (stage.Told told)) old new before b
     turns is
 last_counts allows goes_back start (place.At (stage.Reporting told)) old new before behind to work
     calls turns is =
-    counts_turn allows hook.RequestSummary start (stage.Reporting told) old new before behind to work
+    counts_turn allows hook.RequestSummary start (stage.Reporting told) old new before behind to
+    work
     turns is
 last_counts allows goes_back start (place.At (stage.Ending why)) old new before behind to work calls
     turns is =
     counts_turn allows hook.Logging start (stage.Ending why) old new before behind to work turns is
-last_counts allows true start (place.At (stage.Logged why)) old new before behind to work calls turns
+last_counts allows true start (place.At (stage.Logged why)) old new before behind to work calls
+    turns
     is =
-    counts_turn allows hook.PersistConnectionContext start (stage.Logged why) old new before behind to
+    counts_turn allows hook.PersistConnectionContext start (stage.Logged why) old new before behind
+    to
     work turns is
-last_counts allows false start (place.At (stage.Logged why)) old new before behind to work calls turns
+last_counts allows false start (place.At (stage.Logged why)) old new before behind to work calls
+    turns
     is = absurd (true≢false (sym calls))
 last_counts allows goes_back start (place.Ended how) old new before behind to work calls turns is =
     absurd (true≢false (sym calls))

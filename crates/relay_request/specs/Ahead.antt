@@ -68,8 +68,8 @@ pub record LastPurges (called : List LogEntry) (answer : ResponseHead) : Type 0 
   pub told : head_told last ≡ Some answer
 
 -- what the client is given where these calls answered a request: what they queued; the relay's own
--- 502 behind that, where no final head is among it; or, where it is a purge, the head of its answer,
--- as the entry of its filter tells, and no body
+-- 502 behind that, where no final head is among it; or, where it is a purge, the head of its
+-- answer, as the entry of its filter tells, and no body
 pub data IsAnswerOf (called : List LogEntry) (request : Request) : List HttpTask → Type 0 where
   as_queued : ends_purge called ≡ false
       → (is_whole (wrote_in called) ≡ true)

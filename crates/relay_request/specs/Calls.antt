@@ -396,7 +396,8 @@ module _ (allows : Standing → LogEntry → Type 0) where
         → TakesNext here has_modules old before new behind to
 
   -- the same of the calls of a request, with its client shown
-  abbrev pub CallsNext : {M K X : Type 0} → Calls M K X → HttpSession → ℕ → Calls M K X → HttpSession → ℕ
+  abbrev pub CallsNext : {M K X : Type 0} → Calls M K X → HttpSession → ℕ → Calls M K X →
+      HttpSession → ℕ
       → Type 0
   CallsNext old client mark new left behind =
       TakesNext old.at (is_some old.session.modules) (seen_with old client) mark
@@ -587,14 +588,15 @@ module _ {C M K : Type 0} (allows : Standing → LogEntry → Type 0) (mark_of :
 
   -- the calls so far of a request whose last attempt was given no link: the log walks to where the
   -- session and the context stand, and the error is final there
-  pub record IsLackingCalls (calls : Calls M K C) (context : C) (client : HttpSession) : Type 0 where
-    pub from : Standing
-    pub walks : Walk allows from (log_of calls)
-        (standing None false (moment (seen_with calls client) (mark_of context)))
-    pub at : Station
-    pub order : Accepts accepted (log_of calls) at
-    pub fails : IsTrue (may_fail at)
-    pub unended : IsUnended (log_of calls)
+  pub record IsLackingCalls (calls : Calls M K C) (context : C) (client : HttpSession) : Type 0
+    where
+      pub from : Standing
+      pub walks : Walk allows from (log_of calls)
+          (standing None false (moment (seen_with calls client) (mark_of context)))
+      pub at : Station
+      pub order : Accepts accepted (log_of calls) at
+      pub fails : IsTrue (may_fail at)
+      pub unended : IsUnended (log_of calls)
 
 module _ {L C M K : Type 0} (allows : Standing → LogEntry → Type 0) (mark_of : C → ℕ) where
   -- the calls so far of an attempt whose exchange is under way: they ended as it began, with a
@@ -605,7 +607,7 @@ module _ {L C M K : Type 0} (allows : Standing → LogEntry → Type 0) (mark_of
     pub walks : Walk allows from (log_of calls)
         (standing None false (moment (seen_with calls first) (mark_of a.context)))
     pub order : Accepts accepted (log_of calls) sent
-    pub head : head_of first.reading ≡ head_of a.exchange.exchange.down.session.reading
+    pub head : head_of first.reading ≡ head_of a.exchange.down.session.reading
     pub unanswered : has_head first.writing.place ≡ false
     pub unended : IsUnended (log_of calls)
     pub linked : calls.at ≡ at.Linked
@@ -666,7 +668,7 @@ IsUncalled (Ended outcome attempts) = IsUncalledEnd outcome
 pub record HasFinished {L C M K : Type 0} (a : Attempt L C) (old new : Calls M K C)
     (outcome : Outcome) : Type 0 where
   pub client : HttpSession
-  pub head : head_of client.reading ≡ head_of a.exchange.exchange.down.session.reading
+  pub head : head_of client.reading ≡ head_of a.exchange.down.session.reading
   pub calls : new ≡ closed_with (record old { at = at.Closing a.context (begun None) }) client None
   pub reuse : Bool
   pub served : outcome ≡ Served None reuse
@@ -681,11 +683,11 @@ KeepsCalls a old new (Unlinked context session attempts error) = ⊥
 KeepsCalls a old new (Prepare context session link lease) = ⊥
 KeepsCalls a old new (Relay b) =
     (new ≡ old) × (b.value.context ≡ a.context)
-    × (head_of b.value.exchange.exchange.down.session.reading
-    ≡ head_of a.exchange.exchange.down.session.reading)
+    × (head_of b.value.exchange.down.session.reading
+    ≡ head_of a.exchange.down.session.reading)
 KeepsCalls a old new (Broken context session link lease keep error) =
     (new ≡ old) × (context ≡ a.context)
-    × (head_of session.value.reading ≡ head_of a.exchange.exchange.down.session.reading)
+    × (head_of session.value.reading ≡ head_of a.exchange.down.session.reading)
 KeepsCalls a old new (Again context session link lease keep error) = ⊥
 KeepsCalls a old new (Fail link lease keep session error) = ⊥
 KeepsCalls a old new (Close link lease keep outcome) =
@@ -750,7 +752,7 @@ BeginsCalls context session (Connect other stays tries) = ⊥
 BeginsCalls context session (Unlinked other stays attempts error) = ⊥
 BeginsCalls context session (Prepare other stays link lease) = ⊥
 BeginsCalls context session (Relay a) =
-    (a.value.context ≡ context) × (a.value.exchange.exchange.down.session ≡ session)
+    (a.value.context ≡ context) × (a.value.exchange.down.session ≡ session)
 BeginsCalls context session (Broken other stays link lease keep error) = ⊥
 BeginsCalls context session (Again other stays link lease keep error) = ⊥
 BeginsCalls context session (Fail link lease keep stays error) = ⊥

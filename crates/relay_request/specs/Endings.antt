@@ -88,7 +88,8 @@ pub data IsInOrder (s : Start) (p : Passed) : Type 0 where
       → IsInOrder s p
   is_unsent : (head : RequestHead) (keep : Bool) (raised e : Error) → IsAccepted s p head
       → RefusesToSend s.called head keep raised → IsTreated s.called raised e
-      → IsAnswered s.closed e → IsFrontOf p.written (answer_to head (answered s)) → p.sent ≡ [] → IsInOrder s p
+      → IsAnswered s.closed e → IsFrontOf p.written (answer_to head (answered s)) → p.sent ≡ [] →
+      IsInOrder s p
   is_failure : (cut : Option HttpTask) (head sent : RequestHead) (reused closed : Bool)
       (before : List ℕ) (raised e : Error) → IsRelayable head → Sends s.called head sent
       → (order : IsInOrderWith cut (origin_of s head sent reused) (past_at p before) closed)
@@ -234,10 +235,11 @@ pub record EndsAhead (s : Start) (p : Passed) (w : World) (told : Option Error) 
   -- no attempt failed, whose error was treated
   pub untreated : IsUntreated s.called
 
--- a client's connection may serve another request behind what was sent to answer one with that head:
--- it speaks HTTP/1.1; neither its head nor that of the answer asks to close, nor does the body of
--- the answer last until the connection ends; there is an answer, and it is over; and the request,
--- of whose body nothing was read, has none, with no byte behind it (RFC 9112, sections 9.3 and 9.6)
+-- a client's connection may serve another request behind what was sent to answer one with that
+-- head: it speaks HTTP/1.1; neither its head nor that of the answer asks to close, nor does the
+-- body of the answer last until the connection ends; there is an answer, and it is over; and the
+-- request, of whose body nothing was read, has none, with no byte behind it (RFC 9112, sections 9.3
+-- and 9.6)
 pub record IsReusableBehind (head : RequestHead) (framing : Framing) (sent : Sent) (ahead : List ℕ)
     : Type 0 where
   pub version : head.version ≡ HTTP_11

@@ -36,8 +36,8 @@ pub data Answers {L C : Type 0} (new : Writing) (link : L) (lease : Lease) (keep
       → next ≡ phase.Close link lease keep (outcome.Served (Some e) false)
       → Answers new link lease keep e next
 
--- what an attempt comes to of which some of what waits for the client is offered to it: it stands as
--- it did, with a session of which hooks are shown the same; or memory was wanted
+-- what an attempt comes to of which some of what waits for the client is offered to it: it stands
+-- as it did, with a session of which hooks are shown the same; or memory was wanted
 pub data WritesAhead {L C : Type 0} (context : C) (client : HttpSession) (link : L) (lease : Lease)
     (keep : Bool) (e : Error) (next : Phase L C) : Type 0 where
   stays : (session : Box HttpSession) → ShowsSame session.value client

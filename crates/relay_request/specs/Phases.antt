@@ -97,9 +97,9 @@ written_out session = record session {
   writing = record session.writing { output = outgoing.Open [] };
 }
 
--- an exchange failed with that error, when a part of what was queued had been written, and left that
--- session: it answers the request, with the tasks that were queued, of whose text so much is written
--- now; where it keeps the fault of a write, a write of the client's link failed
+-- an exchange failed with that error, when a part of what was queued had been written, and left
+-- that session: it answers the request, with the tasks that were queued, of whose text so much is
+-- written now; where it keeps the fault of a write, a write of the client's link failed
 pub record LeavesSession (s : Start) (p : Passed) (client : LinkState) (ahead : List ℕ)
     (link : LinkState) (start : LinkStart) (session : HttpSession) (e : Error) : Type 0 where
   pub head : RequestHead
@@ -161,7 +161,7 @@ module _ {L C : Type 0} (state : L → LinkState) (start_at : L → LinkStart) w
     pub under_way : IsUnderWay state start_at (origin_of s head sent a.lease.reused) p w.client
         w.ahead a.exchange
     -- its session has the client's head as hooks left it, and they answered nothing
-    pub is_left : head_of a.exchange.exchange.down.session.reading
+    pub is_left : head_of a.exchange.down.session.reading
         ≡ Some (head_behind head s.called)
     pub quiet : wrote_in s.called ≡ []
 

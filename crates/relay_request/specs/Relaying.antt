@@ -72,8 +72,8 @@ module _ {L : Type 0} (state : L → LinkState) (start_at : L → LinkStart) whe
         → CountsOn state start_at tasks ends s after left x y did.step
     pub calm : says_failed did.step ≡ false → after.faults ≡ before.faults
     pub same_start : start_at (link_of y) ≡ start_at (link_of x)
-    pub same_head : head_of y.exchange.down.session.reading
-        ≡ head_of x.exchange.down.session.reading
+    pub same_head : head_of y.down.session.reading
+        ≡ head_of x.down.session.reading
     pub measured : Measured before after (state (link_of x)) (state (link_of y)) asked
 
 module _ {L C : Type 0} (state : L → LinkState) (start_at : L → LinkStart) where

@@ -16,7 +16,7 @@ has_risen before after = nat_lt before after || not (nat_lt after last_count)
 abbrev pub client_reusable : {L : Type 0} → H1Exchange L → List ℕ → ℕ → ℕ → Bool
 client_reusable x ahead first faults =
     not (has_risen first faults) && ((not x.exchange.up.closes && (length ahead == 0))
-    && lets_ask_again x.exchange.down.session)
+    && lets_ask_again x.down.session)
 
 -- the client may ask for more behind a response that was written out: its request lets it, and the
 -- response is over and does not close the connection

@@ -19,8 +19,8 @@ pub enum Owed {
 }
 
 impl Owed {
-    /// The outcome of a request whose answer was written whole. `again` says that its client may ask
-    /// for more; behind an error none does.
+    /// The outcome of a request whose answer was written whole. `again` says that its client may
+    /// ask for more; behind an error none does.
     pub fn outcome_written(self, again: bool) -> Outcome
         ensures { result ≡ outcome_written self again }
     {

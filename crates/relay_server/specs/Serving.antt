@@ -188,8 +188,8 @@ abbrev pub with_next : {D U L C M : Type 0} → AfterRequest (Visit D U L C M) D
 with_next (Goes visit) rest = visit ∷ rest
 with_next (Ends link) rest = rest
 
--- the next request of a connection is handed the value that the one before kept for it, by where the
--- hooks of its end stood
+-- the next request of a connection is handed the value that the one before kept for it, by where
+-- the hooks of its end stood
 abbrev pub IsHanded : {D U L C M : Type 0} → At U C → AfterRequest (Visit D U L C M) D → Type 0
 IsHanded here (Goes visit) = visit.calls.at ≡ Kept (kept_at here)
 IsHanded here (Ends link) = Unit {0}

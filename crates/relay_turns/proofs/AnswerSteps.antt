@@ -339,7 +339,8 @@ waits_front output written text waits = record { rest = waits.left; joined = wai
 
 module _ {L : Type 0} (state : L → LinkState) (start_at : L → LinkStart) where
   -- what the client is owed is so still after a write of its link
-  abbrev owes_on : (s : Start) (p : Passed) (written : List ℕ) (w x : World) (own : List (Returned L))
+  abbrev owes_on : (s : Start) (p : Passed) (written : List ℕ) (w x : World)
+      (own : List (Returned L))
       (owed : Owed) (text : List ℕ) → WrittenTo w.client x.client
       → x.connect_faults ≡ w.connect_faults → Owes state start_at s p w own owed text
       → Owes state start_at s (past_at p written) x own owed text
@@ -428,7 +429,8 @@ module _ {L : Type 0} (state : L → LinkState) (start_at : L → LinkStart) whe
   owes_order s p w (r ∷ own) (Ahead why) text owes front = absurd owes
   owes_order s p w (r ∷ own) (Served e) text (Misses.in_exchange f is kept) front =
       IsInOrder.is_failure _ f.head f.sent _ _ f.before f.raised e f.relayable f.sends
-      (order_of f.why) (cut_next _ (past_at p f.before) w.client _ _ f.raised f.why) f.treated f.told
+      (order_of f.why) (cut_next _ (past_at p f.before) w.client _ _ f.raised f.why) f.treated
+      f.told
       (subst (λ (t : List ℕ). IsFrontOf p.written t) is front)
   owes_order s p w (r ∷ own) (Served e) text (Misses.ahead_of_it f is) front =
       IsInOrder.is_unsent f.head r.keep f.raised e f.accepted f.refused f.treated f.told
@@ -460,8 +462,11 @@ module _ {L : Type 0} (state : L → LinkState) (start_at : L → LinkStart) whe
       → Owes state start_at s p w own (Served e) text → IsGiven s p w text
       → HasAttempts state start_at s p own (Served e) attempts
       → EndsWith state start_at s p w own attempts (outcome.Served (Some e) false)
-  ends_served s p w [] e text attempts owes given made =
-      ((inl (record { text = text; owed = owes; given = given }), refl), AttemptsFailed.unlinked made)
+  ends_served s p w [] e text attempts owes given made = (
+    (inl (record { text = text; owed = owes; given = given }), refl),
+    AttemptsFailed.unlinked
+        made,
+  )
   ends_served s p w (r ∷ []) e text attempts owes given made = record {
     tells = made.tells;
     peer = made.peer;

@@ -214,9 +214,11 @@ module _ {L M K C : Type 0} (state : L → LinkState) (start_at : L → LinkStar
     }
       where
         k : IsConnecting (opened_to s (log_of d)) p w left attempts
-        k = stays_with allows c d session.value left mark behind hook.FailToConnect from to t.turn s p
+        k = stays_with allows c d session.value left mark behind hook.FailToConnect from to t.turn
+            s p
             w tries attempts
-            (one_more s most (log_of c) (log_of d) tries attempts refusal limit one_refusal one_record
+            (one_more s most (log_of c) (log_of d) tries attempts refusal limit one_refusal
+            one_record
             run.holds.are_tries (record {
               raised = is_raised;
               again = sym (ap (λ (x : Error). may_retry x.retry) made) ∙ may.0;
@@ -242,13 +244,17 @@ module _ {L M K C : Type 0} (state : L → LinkState) (start_at : L → LinkStar
                 refused = refused_last (log_of c) (log_of d) refusal e one_refusal is_raised made;
                 rose = λ below. omega (arith, run.tells.connect_faults, rose below);
                 head = run.holds.head;
-                accepted = called_accepted s (log_of c) (log_of d) p run.holds.head run.holds.accepted;
+                accepted = called_accepted s (log_of c) (log_of d) p run.holds.head
+                    run.holds.accepted;
                 unsent = run.holds.unsent;
               };
-              made = last_one s most (log_of c) (log_of d) tries attempts refusal e limit one_refusal
+              made = last_one s most (log_of c) (log_of d) tries attempts refusal e limit
+                  one_refusal
                   one_record run.holds.are_tries is_raised made over;
-              begins = begins_on (origin_of s run.holds.head run.holds.head false) p.came w.client w.ahead
-                  (seen_with c session.value) (seen_with d left) t.turn.calls.reads t.turn.queued.same
+              begins = begins_on (origin_of s run.holds.head run.holds.head false) p.came w.client
+                  w.ahead
+                  (seen_with c session.value) (seen_with d left) t.turn.calls.reads
+                  t.turn.queued.same
                   (run.holds.begins run.holds.head false);
               written = run.holds.written;
             });
@@ -277,7 +283,8 @@ module _ {L M K C : Type 0} (state : L → LinkState) (start_at : L → LinkStar
 
 -- what the turn moved: another attempt follows, or the client is to be answered
 pub refused_moved : {L C : Type 0} (state : L → LinkState) (start_at : L → LinkStart) (w x : World)
-    (context context' : C) (session session' : Box HttpSession) (tries attempts : List AttemptRecord)
+    (context context' : C) (session session' : Box HttpSession)
+    (tries attempts : List AttemptRecord)
     (a : AttemptRecord) (e : Error) (next : Phase L C) (did : RunStep) → did ≡ step.Moved
     → attempts ≡ tries ++ a ∷ []
     → (next ≡ Connect context' session' attempts) ⊎ (next ≡ Unlinked context' session' attempts e)

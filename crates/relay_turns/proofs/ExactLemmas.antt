@@ -358,9 +358,11 @@ exact_unfit s p w link start keep told (Served None reuse) (inr ends) head accep
     absurd (ends.early.differs (subst (λ (h : RequestHead). AsksAlike h ends.sent) same
     (alike ends.sent (subst (λ (h : RequestHead). Sends s.called h ends.sent) (sym same)
     ends.sends))))
-exact_unfit s p w link start keep told (Served (Some e) reuse) (inl ends) head accepted alike unfit =
+exact_unfit s p w link start keep told (Served (Some e) reuse) (inl ends) head accepted alike unfit
+    =
     inr (e, ap (λ (b : Bool). Served (Some e) b) ends.stays)
-exact_unfit s p w link start keep told (Served (Some e) reuse) (inr ends) head accepted alike unfit =
+exact_unfit s p w link start keep told (Served (Some e) reuse) (inr ends) head accepted alike unfit
+    =
     inr (e, ap (λ (b : Bool). Served (Some e) b) ends.stays)
 exact_unfit s p w link start keep told TurnLimit ends head accepted alike unfit = inl (inl refl)
 exact_unfit s p w link start keep told OutOfMemory ends head accepted alike unfit = inl (inr refl)
@@ -499,7 +501,8 @@ whole_linked s p w link start keep told (Served (Some e) reuse) (inr ends) head 
     r.accepted.has) r.refused))
 whole_linked s p w link start keep told TurnLimit ends head goes agree asks answers client faults =
     inl (inl refl)
-whole_linked s p w link start keep told OutOfMemory ends head goes agree asks answers client faults =
+whole_linked s p w link start keep told OutOfMemory ends head goes agree asks answers client faults
+    =
     inl (inr refl)
 
 -- lists of one and of none

@@ -425,7 +425,8 @@ module _ {L C M K : Type 0} (state : L → LinkState) (start_at : L → LinkStar
         (λ quiet. wrote_on allows c d session.value left.value mark behind hook.ErrorWhileProxy from
         (treated_at (may_follow treated (seen_with c session.value))) QueuesNothing t.call.turn
         quiet ∙ t.call.turn.queued.wrote_none)
-        (as_begun_before (shown_out (seen_with c session.value)) (shown_out (seen_with d left.value))
+        (as_begun_before (shown_out (seen_with c session.value))
+        (shown_out (seen_with d left.value))
         reads_nothing same_out)
         (λ o begins. begins_on o p.came w.client w.ahead (shown_out (seen_with c session.value))
         (shown_out (seen_with d left.value)) reads_nothing same_out begins) l) kept
@@ -719,7 +720,8 @@ module _ {L C M K : Type 0} (state : L → LinkState) (start_at : L → LinkStar
     (link : L) (lease : Lease) (keep : Bool) (raised treated : Error)
     (run : RunSoFar {C = C} state start_at (opened_to s (log_of c)) p w []
     (Broken context session link lease keep raised))
-    (is_treated : IsTreated (log_of c) raised treated) (begun : may_begin_again session.value ≡ true)
+    (is_treated : IsTreated (log_of c) raised treated)
+    (begun : may_begin_again session.value ≡ true)
     (may : MayTry s.most (1 + length (tries_in lease)) treated)
     (to : Station)
     (turn : Turns allows hook.SuppressProxyWarnLog station.repeatable to QueuesNothing

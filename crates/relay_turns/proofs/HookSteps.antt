@@ -499,7 +499,8 @@ module _ {C M K : Type 0} (allows : Standing → LogEntry → Type 0) (mark_of :
         one_called old new work (omega (arith, none)) turn.e turn.calls.log
     memory_by (TakesNext.leads before which comes (place.Ended how) to turn) work none =
         one_called old new work (omega (arith, none)) turn.0.e turn.0.calls.log
-    memory_by (TakesNext.leads before which comes place.Lost to turn) work none = none_called old new work none turn
+    memory_by (TakesNext.leads before which comes place.Lost to turn) work none = none_called old
+        new work none turn
     memory_by (TakesNext.asks t) work none =
         one_called old new work (omega (arith, none)) t.turn.e t.turn.calls.log
     memory_by (TakesNext.tried t) work none =
@@ -515,8 +516,11 @@ module _ {C M K : Type 0} (allows : Standing → LogEntry → Type 0) (mark_of :
         → (at : Station) × IsLogged allows (log_of new) at
     logged_by (TakesNext.leads before which comes (place.Behind last) to turn) tries o =
         (_, logged_more allows mark_of old new context context' client left tries which _ _ turn o)
-    logged_by (TakesNext.leads before which comes (place.Ended how) to turn) tries o =
-        (_, logged_more allows mark_of old new context context' client left tries which _ _ turn.0 o)
+    logged_by (TakesNext.leads before which comes (place.Ended how) to turn) tries o = (
+      _,
+      logged_more allows mark_of old new context context' client left tries which _ _ turn.0
+          o,
+    )
     logged_by (TakesNext.leads before which comes place.Lost to turn) tries o =
         logged_same allows mark_of old new context client tries turn o
     logged_by (TakesNext.asks t) tries o = (

@@ -68,7 +68,8 @@ use Rattle.relay_request.proofs.CallLemmas.{never_again, never_viewed, none_logg
 
 -- a call with which the end does not begin is none of `logging`
 not_logging : (e : LogEntry) → begins_end e.hook ≡ false → same_hook hook.Logging e.hook ≡ false
-not_logging e none = by (same_hook hook.FailToProxy e.hook) (same_hook hook.Logging e.hook) refl none
+not_logging e none = by (same_hook hook.FailToProxy e.hook) (same_hook hook.Logging e.hook) refl
+    none
   where
     by : (a b : Bool) → same_hook hook.Logging e.hook ≡ b → (a || b) ≡ false
         → same_hook hook.Logging e.hook ≡ false
@@ -250,10 +251,11 @@ module _ {C M K : Type 0} (allows : Standing → LogEntry → Type 0) (mark_of :
   by_own_error calls now context client left (Some e) (closing.At (stage.Reporting told)) shown same
       s =
       stands_shown calls now context client left (Some e) (stage.Reporting told) shown same s
-  by_own_error calls now context client left (Some e) (closing.At (stage.Ending cause.Finished)) shown
-      same s =
+  by_own_error calls now context client left (Some e) (closing.At (stage.Ending cause.Finished))
+      shown same s =
       let none : ◌≡◌ {A = Option Error} None (Some e) = s.error_is in cc
-  by_own_error calls now context client left (Some e) (closing.At (stage.Ending (cause.Hidden told)))
+  by_own_error calls now context client left (Some e)
+      (closing.At (stage.Ending (cause.Hidden told)))
       shown same s =
       stands_shown calls now context client left (Some e) (stage.Ending (cause.Hidden told)) shown
       same s
@@ -333,8 +335,8 @@ module _ {C M K : Type 0} (allows : Standing → LogEntry → Type 0) (mark_of :
       → Accepts station.accepted (log_of calls) station.answered → IsUnended (log_of calls)
       → StandsBy allows mark_of calls context client None there
       → StandsBy allows mark_of now context left (Some x) (failed_with there (Some x))
-  stands_failed calls now context client left x (closing.At (stage.Ending cause.Finished)) shown same
-      order open_to s =
+  stands_failed calls now context client left x (closing.At (stage.Ending cause.Finished)) shown
+      same order open_to s =
       let log : log_of now ≡ log_of calls = ap (λ (k : Seen). k.log) shown in
       let on = stands_shown calls now context client left None (stage.Ending cause.Finished) shown
       same s in
@@ -357,8 +359,8 @@ module _ {C M K : Type 0} (allows : Standing → LogEntry → Type 0) (mark_of :
       open_to s = absurd (true≢false (sym s.begun ∙ open_to))
   stands_failed calls now context client left x (closing.At (stage.Reporting told)) shown same order
       open_to s = absurd (true≢false (sym s.begun ∙ open_to))
-  stands_failed calls now context client left x (closing.At (stage.Ending (cause.Hidden told))) shown
-      same order open_to s = absurd (true≢false (sym s.begun ∙ open_to))
+  stands_failed calls now context client left x (closing.At (stage.Ending (cause.Hidden told)))
+      shown same order open_to s = absurd (true≢false (sym s.begun ∙ open_to))
   stands_failed calls now context client left x
       (closing.At (stage.Ending (cause.Reported told summary))) shown same order open_to s =
       absurd (true≢false (sym s.begun ∙ open_to))
@@ -391,7 +393,8 @@ module _ {C M K : Type 0} (allows : Standing → LogEntry → Type 0) (mark_of :
   -- ---- what is owed
 
   pub owing_logged : (calls : Calls M K C) (client : HttpSession) (owed : Owed)
-      → IsOwing allows mark_of calls client owed → (at : Station) × IsLogged allows (log_of calls) at
+      → IsOwing allows mark_of calls client owed → (at : Station) × IsLogged allows (log_of calls)
+      at
   owing_logged calls client (owing.Refused error) o = none_logged allows (log_of calls) o
   owing_logged calls client (owing.Ahead None) o = ends_logged calls.at calls client None o.0
   owing_logged calls client (owing.Ahead (Some e)) o = ends_logged calls.at calls client (Some e) o
@@ -427,7 +430,8 @@ module _ {C M K : Type 0} (allows : Standing → LogEntry → Type 0) (mark_of :
   come_failed calls client left (owing.Refused error) fault same o = o
   come_failed calls client left (owing.Ahead None) fault same o =
       let e = fault_error Downstream fault in
-      ends_failed calls.at calls (closed_with calls left (Some e)) client left e refl same o.1.0 o.1.1
+      ends_failed calls.at calls (closed_with calls left (Some e)) client left e refl same o.1.0
+      o.1.1
       o.0
   come_failed calls client left (owing.Ahead (Some e)) fault same o =
       ends_shown calls.at calls (closed_with calls left (Some e)) client left (Some e) refl same o
@@ -627,7 +631,10 @@ module _ {C M K : Type 0} (allows : Standing → LogEntry → Type 0) (mark_of :
   finished_come a old new came f r =
       subst (λ (c : Calls M K C). HasCome allows mark_of c came) (sym f.calls)
       (subst (λ (o : Outcome). HasCome allows mark_of
-      (closed_with (record old { at = at.Closing a.context (closing.At (stage.Ending cause.Finished)) })
+      (closed_with (record old {
+        at = at.Closing a.context
+            (closing.At (stage.Ending cause.Finished));
+      })
       f.client None) o) (sym f.served) (record {
         from = r.from;
         walks = walk_further allows (log_of old) r.from
@@ -671,7 +678,8 @@ module _ {C M K : Type 0} (allows : Standing → LogEntry → Type 0) (mark_of :
 
 module _ {L C M K : Type 0} (allows : Standing → LogEntry → Type 0) (mark_of : C → ℕ) where
   -- wherever the request stands its log is in order
-  pub calls_logged : (calls : Calls M K C) (phase : Phase L C) → CallsSoFar allows mark_of calls phase
+  pub calls_logged : (calls : Calls M K C) (phase : Phase L C) → CallsSoFar allows mark_of calls
+      phase
       → (at : Station) × IsLogged allows (log_of calls) at
   calls_logged calls ReadHead so_far = none_logged allows (log_of calls) so_far
   calls_logged calls (Connect context session tries) so_far =
@@ -792,4 +800,5 @@ module _ {L C M K : Type 0} (allows : Standing → LogEntry → Type 0) (mark_of
       absurd (true≢false (sym is))
   relaying_calls calls new (Answer session owed attempts) next is keeps so_far =
       absurd (true≢false (sym is))
-  relaying_calls calls new (Ended outcome attempts) next is keeps so_far = absurd (true≢false (sym is))
+  relaying_calls calls new (Ended outcome attempts) next is keeps so_far = absurd
+      (true≢false (sym is))

@@ -92,7 +92,8 @@ called_tells s these those p w tells = record {
 }
 
 -- nor does the head that was accepted
-abbrev pub called_accepted : (s : Start) (these those : List LogEntry) (p : Passed) (head : RequestHead)
+abbrev pub called_accepted : (s : Start) (these those : List LogEntry) (p : Passed)
+    (head : RequestHead)
     → IsAccepted (opened_to s these) p head → IsAccepted (opened_to s those) p head
 called_accepted s these those p head accepted = record {
   framing = accepted.framing;
@@ -254,7 +255,8 @@ stays_with allows c d client left mark behind which from to t s p w tries attemp
 }
 
 -- and with the same ones, but for a call that tells of an attempt without a link
-abbrev pub stays_connecting : {M K X : Type 0} (allows : Standing → LogEntry → Type 0) (c d : Calls M K X)
+abbrev pub stays_connecting : {M K X : Type 0} (allows : Standing → LogEntry → Type 0)
+    (c d : Calls M K X)
     (client left : HttpSession) (mark behind : ℕ) (which : Hook) (from to : Station)
     → Turns allows which from to QueuesNothing (seen_with c client) mark (seen_with d left) behind
     → (s : Start) (p : Passed) (w : World) (tries : List AttemptRecord)
@@ -620,7 +622,8 @@ module _ {L C : Type 0} (state : L → LinkState) (start_at : L → LinkStart) w
       → MadeAhead (closed_to s those xs) why tries
       → IsAnsweredCalmly {p = p} w why owes left.value
       → RunSoFar {C = C} state start_at (opened_to s these) p w [] (Connect context client tries)
-      → Advances {C = C} state start_at (closed_to s those xs) w (Answer left (owed.Ahead why) tries)
+      → Advances {C = C} state start_at (closed_to s those xs) w
+      (Answer left (owed.Ahead why) tries)
   hooks_owe these those xs s p w context client left tries why text waits some owes untreated made
       tells run =
       answer_on state start_at (closed_to s those xs) p w [] left (owed.Ahead why) tries
@@ -664,7 +667,8 @@ module _ {L C : Type 0} (state : L → LinkState) (start_at : L → LinkStart) w
   }
 
   -- what waits for the client is what it is owed
-  pub hooks_leave : (these those : List LogEntry) (xs : List LogEntry) (s : Start) (p : Passed) (w : World)
+  pub hooks_leave : (these those : List LogEntry) (xs : List LogEntry) (s : Start) (p : Passed)
+      (w : World)
       (context : C) (client left : Box HttpSession) (tries : List AttemptRecord)
       (why : Option Error) (text : List ℕ) (next : Phase L C)
       → left.value.writing.output ≡ outgoing.Open text
@@ -741,7 +745,8 @@ module _ {L C : Type 0} (state : L → LinkState) (start_at : L → LinkStart) w
             quiet = ap (λ (l : List LogEntry). wrote_in l) log ∙ called.queued.wrote_none;
             begins = λ sent reused. begins_on (origin_of s head sent reused) p.came x.client x.ahead
                 (seen_with c client) (seen_with d left.value) called.reads called.queued.same
-                (begins_behind (opened_to s (log_of c)) p x head framing len client sent reused tells
+                (begins_behind (opened_to s (log_of c)) p x head framing len client sent reused
+                tells
                 run.holds.written asks
                 (ahead ∙ ap (λ (xs : List ℕ). drop len xs) run.holds.whole) behind);
             unread = λ none. reads_done (seen_with c client) (seen_with d left.value) called.reads

@@ -1,4 +1,5 @@
--- No other attempt follows one that failed: none may, or its client's session does not let one begin.
+-- No other attempt follows one that failed: none may, or its client's session does not let one
+-- begin.
 --
 --   made_as              how many attempts came before the last
 --   over_as              why none follows, where none may or the session does not let one begin
@@ -113,7 +114,8 @@ module _ (s : Start) (client : LinkState) (raised treated : Error) (called : Lis
         elim (cases_Bool (has_head session.writing.place)) [
           | inl has ↦ IsOver.is_told (told_head v.was.e (v.final_head ∙ has))
           | inr none ↦ by_output session.writing.output refl
-              (sym (ap (λ (b : Bool). not b && is_written_out session.writing.output) none) ∙ queued)
+              (sym (ap (λ (b : Bool). not b && is_written_out session.writing.output) none) ∙
+              queued)
               kept none rests
         ]
 

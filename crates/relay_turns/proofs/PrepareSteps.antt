@@ -351,8 +351,10 @@ module _ {L C M K : Type 0} (state : L → LinkState) (start_at : L → LinkStar
     -- the link is held
     abbrev pub holds_link : RunSoFar {C = C} state start_at (opened_to s (log_of c)) p w []
         (Prepare context session link lease)
-    holds_link = linked state start_at (opened_to s (log_of c)) p w context session link lease handed
-        (subst (λ (a : At K C). TellsPeer a (log_of c) (request_head (seen_with c session.value))) was
+    holds_link = linked state start_at (opened_to s (log_of c)) p w context session link lease
+        handed
+        (subst (λ (a : At K C). TellsPeer a (log_of c) (request_head (seen_with c session.value)))
+        was
         tells) same run
 
     -- memory was wanted
@@ -375,7 +377,8 @@ module _ {L C M K : Type 0} (state : L → LinkState) (start_at : L → LinkStar
     -- the link is held
     held_link : RunSoFar {C = C} state start_at (opened_to s (log_of c)) p w []
         (Prepare context session link lease)
-    held_link = holds_link state start_at c s p w context session link lease handed was same tells run
+    held_link = holds_link state start_at c s p w context session link lease handed was same tells
+        run
 
     -- the head comes next
     pub told_well : (context' : C) (session' : Box HttpSession) → session'.value ≡ left
@@ -404,7 +407,8 @@ module _ {L C M K : Type 0} (state : L → LinkState) (start_at : L → LinkStar
         false e
     told_badly e turn fails = record {
       connecting = stays_on allows c d session.value left mark behind s p w
-          (tries_in lease) run.holds hook.ConnectedToUpstream station.named station.broken refl turn;
+          (tries_in lease) run.holds hook.ConnectedToUpstream station.named station.broken refl
+          turn;
       leased = leased_on s (log_of c) (log_of d) p (state link) (start_at link) lease
           (peers_stay allows c d session.value left mark behind hook.ConnectedToUpstream
           station.named station.broken refl refl turn) holds.0;
@@ -611,7 +615,7 @@ module _ {C M K : Type 0} (allows : Standing → LogEntry → Type 0) (mark_of :
     pub filtered_relays : {L : Type 0} → c.at ≡ at.Linked → d.at ≡ at.Linked
         → (filtered : RequestHead)
         → FiltersReady allows c client (mark_of context) d left (mark_of context') filtered
-        → (a : Attempt L C) → a.context ≡ context' → a.exchange.exchange.down.session ≡ left
+        → (a : Attempt L C) → a.context ≡ context' → a.exchange.down.session ≡ left
         → IsRelayingCalls allows mark_of d a
     filtered_relays was is filtered f a same stays =
         relays_more allows mark_of c d context context' client left tries
@@ -736,7 +740,7 @@ module _ {L C : Type 0} (state : L → LinkState) (start_at : L → LinkStart) w
       → IsHandedOut (state link) (start_at link) reused → o.reused ≡ reused
       → IsUnderWay state start_at o
       (record { came = came; written = []; got = []; sent = [] }) client ahead a.exchange)
-      → a.exchange.exchange.down.session ≡ session.value
+      → a.exchange.down.session ≡ session.value
       → IsRelaying state start_at s p w a
   begun s p w context session given link a run sends begins same =
       record {

@@ -417,10 +417,12 @@ module _ {C M K : Type 0} (allows : Standing → LogEntry → Type 0) (mark_of :
     pub purge_logged : (how : End) → IsPurgedTo how → (tries : List AttemptRecord)
         → IsOpening allows mark_of old context client tries
         → (to : Station) × IsLogged allows (log_of new) to
-    purge_logged end.Answered once tries o = (station.answered, purge_order end.Answered once tries o)
+    purge_logged end.Answered once tries o =
+        (station.answered, purge_order end.Answered once tries o)
     purge_logged (end.Unwritten why) once tries o =
         (station.answered, purge_order (end.Unwritten why) once tries o)
-    purge_logged end.Lost same tries o = logged_same allows mark_of old new context client tries same o
+    purge_logged end.Lost same tries o = logged_same allows mark_of old new context client tries
+        same o
 
     -- its answer is owed, and the end of the request begins behind that
     pub purge_owing : IsPurged end.Answered → (tries : List AttemptRecord)
@@ -432,7 +434,8 @@ module _ {C M K : Type 0} (allows : Standing → LogEntry → Type 0) (mark_of :
         let unended : IsUnended (log_of new) = purge_unended end.Answered once o.unended in (
           record {
             from = o.from;
-            walks = walks_more allows mark_of old new context context' client left o.from once.turn.e
+            walks = walks_more allows mark_of old new context context' client left o.from
+                once.turn.e
                 once.turn.calls o.walks;
             start = station.answered;
             begins = refl;
@@ -494,7 +497,8 @@ module _ {C M K : Type 0} (allows : Standing → LogEntry → Type 0) (mark_of :
     pub asks_lost : {L : Type 0} (how : End) → IsPurgedTo how
         → (told ≡ asked) ⊎ IsAsked asked action (seen_with old client) told
         → (tries : List AttemptRecord) → IsOpening allows mark_of old context client tries
-        → (phase : Phase L C) → HasLost phase → AsksPurger asked told (log_of old) (log_of new) phase
+        → (phase : Phase L C) → HasLost phase → AsksPurger asked told (log_of old) (log_of new)
+        phase
     asks_lost end.Answered once may tries o phase lost = asks_once end.Answered once tries o phase
     asks_lost (end.Unwritten why) once may tries o phase lost =
         asks_once (end.Unwritten why) once tries o phase
@@ -508,7 +512,8 @@ module _ {C M K : Type 0} (allows : Standing → LogEntry → Type 0) (mark_of :
 
 module _ {L C : Type 0} where
   -- the settling of a phase asks the purger nothing
-  pub settled_purger : (asked told : PurgerState) (old new : List LogEntry) (phase settled : Phase L C)
+  pub settled_purger : (asked told : PurgerState) (old new : List LogEntry)
+      (phase settled : Phase L C)
       (before after : Option (List (Returned L))) → Settles phase before after settled
       → AsksPurger asked told old new phase → AsksPurger asked told old new settled
   settled_purger asked told old new phase settled before after does (AsksPurger.nothing same none) =
@@ -533,7 +538,8 @@ module _ {L C : Type 0} where
 more_more : (told : Option (List PurgeCall)) (these those : List PurgeCall)
     → more (more told these) those ≡ more told (these ++ those)
 more_more None these those = refl
-more_more (Some calls) these those = ap (λ (l : List PurgeCall). Some l) (append_assoc calls these those)
+more_more (Some calls) these those = ap (λ (l : List PurgeCall). Some l)
+    (append_assoc calls these those)
 
 none_more : (told : Option (List PurgeCall)) → more told [] ≡ told
 none_more None = refl

@@ -61,7 +61,8 @@ pub refused_counts : {L C : Type 0} (next : Phase L C) (context : C) (session : 
     → work.moved ≡ 0 → work.ended ≡ 1 → attempts ≡ tries ++ a ∷ []
     → (next ≡ Connect context session attempts) ⊎ (next ≡ Unlinked context session attempts e)
     → CountsLink tries next work
-refused_counts {L = L} {C = C} next context session tries attempts a e work moved ended are follows =
+refused_counts {L = L} {C = C} next context session tries attempts a e work moved ended are follows
+    =
     let more : length attempts ≡ 1 + length tries =
     omega (
       arith,
@@ -79,11 +80,13 @@ pub told_before_link : {L C : Type 0} (state : L → LinkState) (start_at : L �
     → links_held state start_at phase ≡ 1 → faults_before [] phase ≡ faults_told tries
 told_before_link state start_at tries ReadHead work counts held = absurd counts
 told_before_link state start_at tries (Connect context session again) work counts held = cc
-told_before_link state start_at tries (Unlinked context session attempts error) work counts held = cc
+told_before_link state start_at tries (Unlinked context session attempts error) work counts held =
+    cc
 told_before_link state start_at tries (Prepare context session link lease) work counts held =
     ap (λ (xs : List AttemptRecord). faults_told xs) counts.2
 told_before_link state start_at tries (Relay a) work counts held = absurd counts
-told_before_link state start_at tries (Broken context session link lease keep error) work counts held =
+told_before_link state start_at tries (Broken context session link lease keep error) work counts
+    held =
     ap (λ (xs : List AttemptRecord). faults_told xs) counts.2
 told_before_link state start_at tries (Again context session link lease keep error) work counts
     held =

@@ -97,7 +97,8 @@ module _ {C M K : Type 0} (allows : Standing → LogEntry → Type 0) (mark_of :
           untried = λ still. absurd (true≢false (sym still));
           untreated = untreated_more (log_of c) (log_of d) t.call.turn.e hook.FailToConnect
               t.call.turn.calls.log t.call.turn.hook refl o.untreated;
-          unanswered = ap (λ (x : Writing). has_head x.place) t.call.turn.queued.same ∙ o.unanswered;
+          unanswered = ap (λ (x : Writing). has_head x.place) t.call.turn.queued.same ∙
+              o.unanswered;
           kept = reads_truncated (seen_with c client) (seen_with d left) t.call.turn.calls.reads
               ∙ o.kept;
           unended = unended;
@@ -115,7 +116,8 @@ module _ {C M K : Type 0} (allows : Standing → LogEntry → Type 0) (mark_of :
     }
 
     -- whichever it is, by the phase in which the request stands then
-    pub refused_calls : {L : Type 0} (f : Calls M K C) (session' : Box HttpSession) (next : Phase L C)
+    pub refused_calls : {L : Type 0} (f : Calls M K C) (session' : Box HttpSession)
+        (next : Phase L C)
         (most : ℕ) (attempts : List AttemptRecord) (e : Error) → e ≡ upstream_error treated
         → (MayTry most (length attempts) e → (next ≡ Connect context' session' attempts)
         × (f ≡ record d { at = at.Repeatable e }))
@@ -126,7 +128,8 @@ module _ {C M K : Type 0} (allows : Standing → LogEntry → Type 0) (mark_of :
         elim (may_or_not most (length attempts) e) [
           | inl may ↦ subst (λ (n : Phase L C). CallsSoFar {L = L} allows mark_of f n)
               (sym (again may).0)
-              (subst (λ (h : HttpSession). IsOpening allows mark_of f context' h attempts) (sym stays)
+              (subst (λ (h : HttpSession). IsOpening allows mark_of f context' h attempts)
+              (sym stays)
               (repeats e attempts f (sym (ap (λ (x : Error). may_retry x.retry) made) ∙ may.0)
               (again may).1))
           | inr over ↦ subst (λ (n : Phase L C). CallsSoFar {L = L} allows mark_of f n)

@@ -122,8 +122,8 @@ none_risen before after still = by (ltb before after) (ltb after last_count) ref
 -- what is known of a finished exchange says exactly whether its client may ask for more
 reusable : {L : Type 0} (x : H1Exchange L) (o : Origin) (p : Passed) (closed : Bool)
     (order : exchange.IsInOrder o p closed) (first : ℕ) (w : World) (keeps : Bool)
-    → x.exchange.down.session.writing.request ≡ request_of o.head
-    → Leaves o p closed order w.ahead (is_body_done x.exchange.down.session.reading)
+    → x.down.session.writing.request ≡ request_of o.head
+    → Leaves o p closed order w.ahead (is_body_done x.down.session.reading)
     x.exchange.up.closes keeps
     → IsTrue (client_reusable x w.ahead first w.client.faults)
     ↔ IsClientReusable o p closed order first w
@@ -149,7 +149,7 @@ reusable x o p closed order first w keeps answers leaves = (
     none = length w.ahead == 0
 
     done : Bool
-    done = is_body_done x.exchange.down.session.reading
+    done = is_body_done x.down.session.reading
 
     is_11 : Bool
     is_11 = is_http_11 o.head.version
@@ -162,7 +162,8 @@ reusable x o p closed order first w keeps answers leaves = (
     tests = ap (λ (r : Request). not risen && ((not closing && none) && (done && lets_ask r)))
         answers
 
-    by_tests : SixPass risen closing none done is_11 asks → IsClientReusable o p closed order first w
+    by_tests : SixPass risen closing none done is_11 asks → IsClientReusable o p closed order first
+        w
     by_tests six = record {
       version = version_11 o.head.version six.version;
       asks = six.asks;
@@ -263,8 +264,8 @@ module _ {L C : Type 0} (state : L → LinkState) (start_at : L → LinkStart) w
       → IsUnderWay state start_at (origin_of s run.holds.head run.holds.sent a.value.lease.reused) q
       client ahead x
       → client.faults ≡ s.faults
-      → head_of x.exchange.down.session.reading
-      ≡ head_of a.value.exchange.exchange.down.session.reading
+      → head_of x.down.session.reading
+      ≡ head_of a.value.exchange.down.session.reading
       → RunSoFar {C = C} state start_at s q (world_with client ahead v.connect_faults) []
       (Relay (turned a x))
   going_on s p q v client ahead a x run told under calm same = record {
@@ -296,8 +297,8 @@ module _ {L C : Type 0} (state : L → LinkState) (start_at : L → LinkStart) w
       → Turns state start_at (origin_of s run.holds.head run.holds.sent a.value.lease.reused) client
       ahead x step.Moved
       → client.faults ≡ v.client.faults
-      → head_of x.exchange.down.session.reading
-      ≡ head_of a.value.exchange.exchange.down.session.reading
+      → head_of x.down.session.reading
+      ≡ head_of a.value.exchange.down.session.reading
       → Advances {C = C} state start_at s (world_with client ahead v.connect_faults)
       (Relay (turned a x))
   moves s p v client ahead a x run turns calm same = record {
@@ -313,8 +314,8 @@ module _ {L C : Type 0} (state : L → LinkState) (start_at : L → LinkStart) w
       → Turns state start_at (origin_of s run.holds.head run.holds.sent a.value.lease.reused) client
       ahead x (step.Waited pause)
       → client.faults ≡ v.client.faults
-      → head_of x.exchange.down.session.reading
-      ≡ head_of a.value.exchange.exchange.down.session.reading
+      → head_of x.down.session.reading
+      ≡ head_of a.value.exchange.down.session.reading
       → Advances {C = C} state start_at s (world_with client ahead v.connect_faults)
       (Relay (turned a x))
   waits s p v client ahead a x pause run turns calm same = record {
@@ -401,7 +402,7 @@ module _ {L C : Type 0} (state : L → LinkState) (start_at : L → LinkStart) w
     tells : TellsClient s passed w
     held : IsLeased s passed (state (link_of x)) (start_at (link_of x)) a.value.lease
     left : LeavesBy s passed w.client w.ahead (state (link_of x)) (start_at (link_of x))
-        x.exchange.down.session why
+        x.down.session why
 
   -- a turn that failed
   fails : (s : Start) (p : Passed) (v : World) (client : LinkState) (ahead : List ℕ)
@@ -409,8 +410,8 @@ module _ {L C : Type 0} (state : L → LinkState) (start_at : L → LinkStart) w
       (run : RunSoFar state start_at s p v [] (Relay a))
       → Turns state start_at (origin_of s run.holds.head run.holds.sent a.value.lease.reused) client
       ahead x (step.Failed why)
-      → head_of x.exchange.down.session.reading
-      ≡ head_of a.value.exchange.exchange.down.session.reading
+      → head_of x.down.session.reading
+      ≡ head_of a.value.exchange.down.session.reading
       → LeavesOff s (world_with client ahead v.connect_faults) a x why
   fails s p v client ahead a x why run turns same = record {
     passed = turns.passed;
@@ -425,7 +426,7 @@ module _ {L C : Type 0} (state : L → LinkState) (start_at : L → LinkStart) w
           → ComesTo state start_at (origin_of s run.holds.head run.holds.sent a.value.lease.reused)
           turns.passed client ahead x (step.Failed f)
           → LeavesBy s turns.passed client ahead (state (link_of x)) (start_at (link_of x))
-          x.exchange.down.session f
+          x.down.session f
       by fail.OutOfMemory order =
           part_relayed s turns.passed run.holds.head run.holds.sent a.value.lease.reused _ _
           run.holds.relayable run.holds.sends turns.told.reused order
@@ -457,8 +458,8 @@ module _ {L C : Type 0} (state : L → LinkState) (start_at : L → LinkStart) w
                 let o =
                 origin_of s run.holds.head run.holds.sent (start_at (link_of x)).reused in
                 subst (λ (came : List ℕ). BeginsBehind (rebased_to o client) came client ahead
-                (written_out x.exchange.down.session)) own.came
-                (begins_out o own.down client ahead x.exchange.down.session own.client queue is
+                (written_out x.down.session)) own.came
+                (begins_out o own.down client ahead x.down.session own.client queue is
                 begun);
           }
 
@@ -478,9 +479,9 @@ of_attempt P phase own is holds a same =
 -- an attempt that broke off left its context, and a session of the same head
 off_keeps : {L C M K : Type 0} (calls : Calls M K C) (a b : Attempt L C) (next : Phase L C)
     → b.context ≡ a.context
-    → head_of b.exchange.exchange.down.session.reading
-    ≡ head_of a.exchange.exchange.down.session.reading
-    → BreaksOff b.context b.exchange.exchange.down.session next → KeepsCalls a calls calls next
+    → head_of b.exchange.down.session.reading
+    ≡ head_of a.exchange.down.session.reading
+    → BreaksOff b.context b.exchange.down.session next → KeepsCalls a calls calls next
 off_keeps calls a b ReadHead same head off = absurd off
 off_keeps calls a b (Connect context session tries) same head off = absurd off
 off_keeps calls a b (Unlinked context session attempts error) same head off = absurd off
@@ -532,7 +533,7 @@ module _ {L C : Type 0} (state : L → LinkState) (start_at : L → LinkStart)
     -- so does one that failed
     pub failed_keeps : {M K : Type 0} (calls : Calls M K C) (end : Phase L C)
         → ((b : Box (Attempt L C)) → next ≡ Relay b
-        → BreaksOff b.value.context b.value.exchange.exchange.down.session end)
+        → BreaksOff b.value.context b.value.exchange.down.session end)
         → (a : Box (Attempt L C)) → phase ≡ Relay a → KeepsCalls a.value calls calls end
     failed_keeps calls end off a is =
         subst (λ (b : Box (Attempt L C)). KeepsCalls b.value calls calls end)
@@ -547,13 +548,13 @@ module _ {L C : Type 0} (state : L → LinkState) (start_at : L → LinkStart)
         (Served None (client_reusable a.value.exchange x.ahead first x.client.faults)))
         → ((a : Box (Attempt L C)) → next ≡ Relay a
         → new ≡ closed_with (record calls { at = at.Closing a.value.context (begun None) })
-        a.value.exchange.exchange.down.session None)
+        a.value.exchange.down.session None)
         → (a : Box (Attempt L C)) → phase ≡ Relay a → KeepsCalls a.value calls new end
     finished_keeps first calls new end closes calls_are a is =
         let here = turned within.attempt within.exchange in
         let done : HasFinished within.attempt.value calls new
         (Served None (client_reusable within.exchange x.ahead first x.client.faults)) = record {
-          client = within.exchange.exchange.down.session;
+          client = within.exchange.down.session;
           head = within.turns.same_head;
           calls = calls_are here within.stands;
           reuse = client_reusable within.exchange x.ahead first x.client.faults;
@@ -621,7 +622,7 @@ module _ {L C : Type 0} (state : L → LinkState) (start_at : L → LinkStart)
         → IsLeased s p (state (link_of a.value.exchange)) (start_at (link_of a.value.exchange))
         a.value.lease
         → LeavesBy s p z.client z.ahead (state (link_of a.value.exchange))
-        (start_at (link_of a.value.exchange)) a.value.exchange.exchange.down.session why
+        (start_at (link_of a.value.exchange)) a.value.exchange.down.session why
         → Advances {C = C} state start_at s z end)
         → (s : Start) (p : Passed) → RunSoFar state start_at s p w [] phase
         → Advances {C = C} state start_at s x end

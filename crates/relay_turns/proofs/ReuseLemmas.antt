@@ -67,7 +67,8 @@ pub may_exactly : {s : Start} {p : Passed} (why : Option Error) (text : List ℕ
 may_exactly why text (IsOwedAhead.by_answer head tasks t has order is_answer is) session ahead none
     some tells = (
       λ goes.
-          let six = six_pass (length ahead == 0) (ends_with_head has.framing) (is_http_11 head.version)
+          let six = six_pass (length ahead == 0) (ends_with_head has.framing)
+          (is_http_11 head.version)
           (closes head.fields) (is_over sent.place) sent.closes (sym tests ∙ goes) in
           record {
             version = version_11 head.version six.is_11;

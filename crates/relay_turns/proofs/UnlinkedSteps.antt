@@ -106,7 +106,8 @@ module _ {L C : Type 0} (state : L → LinkState) (start_at : L → LinkStart) w
       → IsOwedUnlinked (closed_to s log xs) p w e text
       → RunSoFar {C = C} state start_at (opened_to s log) p w []
       (Unlinked context client attempts e)
-      → Advances {C = C} state start_at (closed_to s log xs) w (Answer left (owed.Served e) attempts)
+      → Advances {C = C} state start_at (closed_to s log xs) w
+      (Answer left (owed.Served e) attempts)
   unlinked_owe log xs s p w context client left attempts e text waits some owes run =
       answer_on state start_at (closed_to s log xs) p w [] left (owed.Served e) attempts
       (closed_tells s log xs p w (called_tells s log log p w run.tells)) (record {
@@ -148,7 +149,8 @@ module _ {L C : Type 0} (state : L → LinkState) (start_at : L → LinkStart) w
   pub unlinked_leave : (log xs : List LogEntry) (s : Start) (p : Passed) (w : World) (context : C)
       (client left : Box HttpSession) (attempts : List AttemptRecord) (e : Error) (text : List ℕ)
       (next : Phase L C) → left.value.writing.output ≡ outgoing.Open text
-      → (0 < length (pending left.value.writing.output) → next ≡ Answer left (owed.Served e) attempts)
+      → (0 < length (pending left.value.writing.output) → next ≡ Answer left (owed.Served e)
+      attempts)
       → (pending left.value.writing.output ≡ []
       → next ≡ Ended (outcome.Served (Some e) false) attempts)
       → IsOwedUnlinked (closed_to s log xs) p w e text

@@ -1,6 +1,9 @@
 -- A response that was relayed whole is not unfit.
 --
---   relayed_fit   from IsRelayed and IsUnfit: nothing
+--   final_stays       no head that switches protocols is told of, where none comes
+--   ended_or_broken   an ended mark is not a broken one
+--   ended_or_cut      nor is it cut off
+--   relayed_fit       from IsRelayed and IsUnfit: nothing
 use Rattle.std.proofs.Common.{◌≡◌, ℕ, Bool, true, false, List, [], ◌∷◌, Some, None, refl, sym, ap, ◌∙◌}
 use Rattle.std.specs.Prelude.{◌≢◌, ◌||◌, ◌==◌}
 use Rattle.std.specs.List.{list_any}
@@ -30,7 +33,7 @@ not_both on off = apart (sym on ∙ off)
     apart same = cc
 
 -- no head that switches protocols is told of, where none was before and none comes
-final_stays : (told : reading.ToldResponse) (tasks : List HttpTask)
+pub final_stays : (told : reading.ToldResponse) (tasks : List HttpTask)
     → list_any is_switch tasks ≡ false → ((h : ResponseHead) → told.final ≡ Some h → h.status ≢ 101)
     → (h : ResponseHead) → (told_behind told tasks).final ≡ Some h → h.status ≢ 101
 final_stays told [] none before h is = before h is
@@ -68,11 +71,11 @@ final_stays told (one ∷ tasks) none before h is =
     one_more told (task.Failed error) stays before h is = before h is
 
 -- an ended mark is no other
-ended_or_broken : (n : ℕ) → said.ResponseMark.ended n ≡ said.ResponseMark.broken → ⊥
+pub ended_or_broken : (n : ℕ) → said.ResponseMark.ended n ≡ said.ResponseMark.broken → ⊥
 ended_or_broken n same = cc
 
 -- nor is it cut off
-ended_or_cut : (n : ℕ) → said.ResponseMark.ended n ≡ said.ResponseMark.cut_off → ⊥
+pub ended_or_cut : (n : ℕ) → said.ResponseMark.ended n ≡ said.ResponseMark.cut_off → ⊥
 ended_or_cut n same = cc
 
 -- a response that was relayed whole is not unfit

@@ -78,18 +78,21 @@ returns-in-Took-clause-cause g c = λ faults.
 -- what was offered leaves a session of which hooks are shown the same
 pub returns-in-Took-clause-calls : goal.returns-in-Took-clause-calls
 returns-in-Took-clause-calls g c =
-    owing_as c.args.session.value c.offer.new.session c.args.owed c.args.calls.now c.took.new.calls c.took.result.phase
+    owing_as c.args.session.value c.offer.new.session c.args.owed c.args.calls.now c.took.new.calls
+    c.took.result.phase
     (rw c.deref_mut.ensures.value at c.offer.ensures.same) c.took.ensures.calls
 
 pub returns-in-NotReady-clause-calls : goal.returns-in-NotReady-clause-calls
 returns-in-NotReady-clause-calls g c =
     Owing.waits _ (refl, refl)
-    (shows_same c.args.session.value c.offer.new.session (rw c.deref_mut.ensures.value at c.offer.ensures.same)) refl
+    (shows_same c.args.session.value c.offer.new.session
+    (rw c.deref_mut.ensures.value at c.offer.ensures.same)) refl
 
 pub returns-in-Silent-clause-calls : goal.returns-in-Silent-clause-calls
 returns-in-Silent-clause-calls g c =
     Owing.waits _ (refl, refl)
-    (shows_same c.args.session.value c.offer.new.session (rw c.deref_mut.ensures.value at c.offer.ensures.same)) refl
+    (shows_same c.args.session.value c.offer.new.session
+    (rw c.deref_mut.ensures.value at c.offer.ensures.same)) refl
 
 -- the write failed
 pub returns-in-Failed-clause-calls : goal.returns-in-Failed-clause-calls

@@ -72,7 +72,8 @@ returns-clause-calls g c = λ none.
     begun_calls _ _ c.args.calls.now c.begin_calls.new.calls c.begun_http1-session.result _ _ _ none
     c.new-3.ensures c.in-Ok.ensures.at (ap (λ (p : Place). has_head p)
     (stands_first c.begun_http1-session.result.writing made.response made.output))
-    (kept_whole c.begun_http1-session.result.reading made.kept) c.in-Ok.ensures.once (rw c.in-Ok-new.ensures.ok c.in-Ok.ensures.begins)
+    (kept_whole c.begun_http1-session.result.reading made.kept) c.in-Ok.ensures.once
+    (rw c.in-Ok-new.ensures.ok c.in-Ok.ensures.begins)
 
 -- the end does not begin with the first call
 pub returns-in_default-clause-unended : goal.returns-in_default-clause-unended

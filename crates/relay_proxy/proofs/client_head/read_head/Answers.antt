@@ -42,7 +42,8 @@ returns-in-Err-OutOfMemory-clause-calls g c = λ none.
 pub returns-in-Err-Error-clause-run : goal.returns-in-Err-Error-clause-run
 returns-in-Err-Error-clause-run g c = λ s p faults none run.
     let verdict = rw c.in-Err-Error.field-0-is at c.in-Err-Error.ensures.verdict in
-    rw c.judge_request.ensures.same (c.give_answer.ensures.run (opened_to s (log_of c.args.calls.now)) p
+    rw c.judge_request.ensures.same
+    (c.give_answer.ensures.run (opened_to s (log_of c.args.calls.now)) p
     (world_of g.D.ByteLink.state c.args.client.now faults) run
     (endings.IsTurnedDown.has_bad_head verdict.0 verdict.2 refl
     (rw verdict.1 refl)))

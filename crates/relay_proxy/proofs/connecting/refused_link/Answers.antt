@@ -71,7 +71,8 @@ returns-in-Ok-clause-counts g c =
 pub returns-in-Err-clause-run : goal.returns-in-Err-clause-run
 returns-in-Err-clause-run g c = λ s p w failed limit fits rose kind o was same run.
     rw c.lacks_memory.ensures.phase
-    (not_told g.L.ByteLink.state g.L.ByteLink.start c.args.calls.now c.treat_unlinked.new.calls s p w
+    (not_told g.L.ByteLink.state g.L.ByteLink.start c.args.calls.now c.treat_unlinked.new.calls s p
+    w
     failed c.args.context c.args.session c.args.lacking.room.items.items c.record.result fits rose
     run c.args.lacking.peer c.args.lacking.recorded c.args.lacking.fault c.into_up.result
     c.in-Err.ensures.lost

@@ -31,10 +31,12 @@ returns-in-Ok-clause-run g c = λ s p w stops b run.
     (subst
     (λ (t : Start). Advances g.L.ByteLink.state g.L.ByteLink.start t w c.owe.result.phase)
     (sym (ends_with s (log_of c.args.calls.now) (log_of c.answer_error.new.calls) answers.turn.e
-    answers.turn.calls.log b.unended (ap (λ (h : Hook). same_hook hook.FailToProxy h) answers.turn.hook)))
+    answers.turn.calls.log b.unended
+    (ap (λ (h : Hook). same_hook hook.FailToProxy h) answers.turn.hook)))
     (answered_on g.L.ByteLink.state g.L.ByteLink.start s (log_of c.args.calls.now)
     (answers.turn.e ∷ []) p w c.args.context c.args.session _ c.args.link c.args.lease c.args.keep
-    c.args.error c.args.treated (b.viewed c.args.treated c.requires) stops (answered_by _ answers) (queued_by _ answers)
+    c.args.error c.args.treated (b.viewed c.args.treated c.requires) stops (answered_by _ answers)
+    (queued_by _ answers)
     (subst
     (λ (t : Start). RunSoFar g.L.ByteLink.state g.L.ByteLink.start t p w []
     (phase.Broken c.args.context c.args.session c.args.link c.args.lease c.args.keep c.args.error))
@@ -58,7 +60,8 @@ returns-in-Ok-clause-called g c =
     let h = rw c.deref_mut.ensures.value at (c.in-Ok.ensures.answers station.failing refl) in
     counted_still c.args.calls.now c.answer_error.new.calls c.owe.new.calls c.owe.result.work
     (owing_log _ _ _ _ _ c.owe.ensures.calls)
-    (one_called c.args.calls.now c.answer_error.new.calls c.owe.result.work c.owe.ensures.called h.answers.turn.e
+    (one_called c.args.calls.now c.answer_error.new.calls c.owe.result.work c.owe.ensures.called
+    h.answers.turn.e
     h.answers.turn.calls.log)
 
 -- memory was wanted

@@ -38,7 +38,8 @@ returns-in-Ok-clause-run g c = λ s p w o run.
       fails = final_fails c.args.calls.now.at (log_of c.args.calls.now) _ c.args.error c.requires
           o.named;
     } in
-    let done = error_answered s (log_of c.args.calls.now) (answers.turn.e ∷ []) p w c.args.session.value
+    let done = error_answered s (log_of c.args.calls.now) (answers.turn.e ∷ []) p w
+    c.args.session.value
     c.answer_error.new.client c.args.tries c.args.error stops
     (answered_by _ answers) (queued_by _ answers) before.holds in
     subst (λ (l : List LogEntry). Advances g.L.ByteLink.state g.L.ByteLink.start (called_to s l) w
@@ -46,9 +47,11 @@ returns-in-Ok-clause-run g c = λ s p w o run.
     (subst
     (λ (t : Start). Advances g.L.ByteLink.state g.L.ByteLink.start t w c.owe.result.phase)
     (sym (ends_with s (log_of c.args.calls.now) (log_of c.answer_error.new.calls) answers.turn.e
-    answers.turn.calls.log o.unended (ap (λ (h : Hook). same_hook hook.FailToProxy h) answers.turn.hook)))
+    answers.turn.calls.log o.unended
+    (ap (λ (h : Hook). same_hook hook.FailToProxy h) answers.turn.hook)))
     (hooks_leave g.L.ByteLink.state g.L.ByteLink.start (log_of c.args.calls.now)
-    (log_of c.args.calls.now) (answers.turn.e ∷ []) s p w c.args.context c.args.session _ c.args.tries
+    (log_of c.args.calls.now) (answers.turn.e ∷ []) s p w c.args.context c.args.session _
+    c.args.tries
     _ done.text c.owe.result.phase done.is_open (λ some. (c.owe.ensures.some some).0)
     (λ none. (c.owe.ensures.none none).0) done.owed o.untreated
     (closed_tries s (log_of c.args.calls.now) (answers.turn.e ∷ []) c.args.tries
@@ -71,7 +74,8 @@ returns-in-Ok-clause-called g c =
     let answers = h.answers in
     counted_still c.args.calls.now c.answer_error.new.calls c.owe.new.calls c.owe.result.work
     (owing_log _ _ _ _ _ c.owe.ensures.calls)
-    (one_called c.args.calls.now c.answer_error.new.calls c.owe.result.work (rw c.owe.ensures.work (omega arith)) answers.turn.e
+    (one_called c.args.calls.now c.answer_error.new.calls c.owe.result.work
+    (rw c.owe.ensures.work (omega arith)) answers.turn.e
     answers.turn.calls.log)
 
 -- memory was wanted

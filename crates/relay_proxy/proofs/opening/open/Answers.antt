@@ -98,7 +98,8 @@ returns-in-OutOfMemory-clause-calls g c = λ o.
     rw c.lacks_memory.ensures.phase
     (memory_logged _ (g.SV.ProxyHttp.mark_of c.args.app.now) c.args.calls.now
     c.call_next.new.calls c.args.context c.call_next.new.context c.args.session.value
-    c.call_next.new.client (rw c.deref_mut.ensures.value at c.in-OutOfMemory.ensures.turns) c.args.tries o)
+    c.call_next.new.client (rw c.deref_mut.ensures.value at c.in-OutOfMemory.ensures.turns)
+    c.args.tries o)
 
 pub returns-in-OutOfMemory-clause-called : goal.returns-in-OutOfMemory-clause-called
 returns-in-OutOfMemory-clause-called g c =

@@ -45,7 +45,8 @@ returns-in-Answered-clause-calls g c = λ o.
     (subst (λ (k : Calls _ _ _). IsOwing
     (allowed_by (g.SV.ProxyHttp.allows c.args.app.now) g.SV.Modules.HttpModule.allows)
     (g.SV.ProxyHttp.mark_of c.args.app.now) k c.call_purger.new.client (owing.Ahead None))
-    (sym c.begin_end.ensures) (purge_owing _ (g.SV.ProxyHttp.mark_of c.args.app.now) c.args.calls.now
+    (sym c.begin_end.ensures) (purge_owing _ (g.SV.ProxyHttp.mark_of c.args.app.now)
+    c.args.calls.now
     c.call_purger.new.calls c.args.context c.call_purger.new.context c.args.session.value
     c.call_purger.new.client c.args.action _ _ c.requires
     (rw c.deref_mut.ensures.value at c.in-Answered.ensures.purges) c.args.tries o))
@@ -79,7 +80,8 @@ returns-in-Answered-clause-purger g c = λ o.
     (asks_once _ (g.SV.ProxyHttp.mark_of c.args.app.now) c.args.calls.now
     c.call_purger.new.calls c.args.context c.call_purger.new.context c.args.session.value
     c.call_purger.new.client c.args.action _ _ c.requires
-    end.Answered (rw c.deref_mut.ensures.value at c.in-Answered.ensures.purges) c.args.tries o c.owe.result.phase)
+    end.Answered (rw c.deref_mut.ensures.value at c.in-Answered.ensures.purges) c.args.tries o
+    c.owe.result.phase)
 
 -- or memory was wanted
 pub returns-in-Unwritten-clause-run : goal.returns-in-Unwritten-clause-run
@@ -91,7 +93,8 @@ returns-in-Unwritten-clause-run g c = λ s p w o run.
     (purge_refusals _ (g.SV.ProxyHttp.mark_of c.args.app.now) c.args.calls.now
     c.call_purger.new.calls c.args.context c.call_purger.new.context c.args.session.value
     c.call_purger.new.client c.args.action _ _ c.requires
-    c.call_purger.result (rw c.deref_mut.ensures.value at c.call_purger.ensures.purges)) run.holds.are_tries) run)
+    c.call_purger.result (rw c.deref_mut.ensures.value at c.call_purger.ensures.purges))
+    run.holds.are_tries) run)
 
 pub returns-in-Unwritten-clause-calls : goal.returns-in-Unwritten-clause-calls
 returns-in-Unwritten-clause-calls g c = λ o.
@@ -99,14 +102,16 @@ returns-in-Unwritten-clause-calls g c = λ o.
     (purge_logged _ (g.SV.ProxyHttp.mark_of c.args.app.now) c.args.calls.now
     c.call_purger.new.calls c.args.context c.call_purger.new.context c.args.session.value
     c.call_purger.new.client c.args.action _ _ c.requires
-    c.call_purger.result (rw c.deref_mut.ensures.value at c.call_purger.ensures.purges) c.args.tries o)
+    c.call_purger.result (rw c.deref_mut.ensures.value at c.call_purger.ensures.purges)
+    c.args.tries o)
 
 pub returns-in-Unwritten-clause-called : goal.returns-in-Unwritten-clause-called
 returns-in-Unwritten-clause-called g c =
     purge_memory _ (g.SV.ProxyHttp.mark_of c.args.app.now) c.args.calls.now
     c.call_purger.new.calls c.args.context c.call_purger.new.context c.args.session.value
     c.call_purger.new.client c.args.action _ _ c.requires
-    c.call_purger.result (rw c.deref_mut.ensures.value at c.call_purger.ensures.purges) c.lacks_memory.result.work
+    c.call_purger.result (rw c.deref_mut.ensures.value at c.call_purger.ensures.purges)
+    c.lacks_memory.result.work
     (rw c.lacks_memory.ensures.work refl)
 
 pub returns-in-Unwritten-clause-unended : goal.returns-in-Unwritten-clause-unended

@@ -697,15 +697,18 @@ returns-in-Answer-clause-called g c =
 pub returns-in-ReadHead-clause-purger : goal.returns-in-ReadHead-clause-purger
 returns-in-ReadHead-clause-purger g c =
     rw (c.go_on.ensures.phase, sym c.replace.ensures.value ∙ c.in-ReadHead.is) (λ o.
-    let logged = calls_logged _ _ c.read_head.new.calls c.read_head.result.phase (c.read_head.ensures.calls o) in
+    let logged = calls_logged _ _ c.read_head.new.calls c.read_head.result.phase
+    (c.read_head.ensures.calls o) in
     asks_nothing _ _ c.args.calls.now c.read_head.new.calls c.read_head.result.phase
-    station.accepted logged.0 refl (ap (λ (l : List LogEntry). next_behind (Some station.accepted) l) o) (λ is. cc)
+    station.accepted logged.0 refl (ap
+    (λ (l : List LogEntry). next_behind (Some station.accepted) l) o) (λ is. cc)
     logged.1.order c.read_head.ensures.called.grows c.read_head.ensures.called.once)
 
 pub returns-in-Unlinked-clause-purger : goal.returns-in-Unlinked-clause-purger
 returns-in-Unlinked-clause-purger g c =
     rw (c.go_on-in-Unlinked.ensures.phase, sym c.replace.ensures.value ∙ c.in-Unlinked.is) (λ o.
-    let logged = calls_logged _ _ c.answer_unlinked.new.calls c.answer_unlinked.result.phase (c.answer_unlinked.ensures.calls o) in
+    let logged = calls_logged _ _ c.answer_unlinked.new.calls c.answer_unlinked.result.phase
+    (c.answer_unlinked.ensures.calls o) in
     asks_nothing _ _ c.args.calls.now c.answer_unlinked.new.calls c.answer_unlinked.result.phase
     o.at logged.0 refl o.order (fails_elsewhere o.at o.fails)
     logged.1.order c.answer_unlinked.ensures.called.grows c.answer_unlinked.ensures.called.once)
@@ -713,7 +716,8 @@ returns-in-Unlinked-clause-purger g c =
 pub returns-in-Prepare-clause-purger : goal.returns-in-Prepare-clause-purger
 returns-in-Prepare-clause-purger g c =
     rw (c.go_on-in-Prepare.ensures.phase, sym c.replace.ensures.value ∙ c.in-Prepare.is) (λ o.
-    let logged = calls_logged _ _ c.prepare.new.calls c.prepare.result.phase (c.prepare.ensures.calls o) in
+    let logged = calls_logged _ _ c.prepare.new.calls c.prepare.result.phase
+    (c.prepare.ensures.calls o) in
     asks_nothing _ _ c.args.calls.now c.prepare.new.calls c.prepare.result.phase
     (station_at c.args.calls.now.at) logged.0 refl o.0.order
     (opens_elsewhere c.args.calls.now.at (ap (λ (a : At _ _). purge_at a) o.1))

@@ -12,5 +12,6 @@ returns-clause-begins g c =
     rw (c.swap-2.ensures.x_after, sym c.swap.ensures.y_after)
     (opens_begun {K = g.row.SV-Kept.Denot} (g.SV.ProxyHttp.allows c.args.app.now)
     (λ (call : ModuleCall). (made : g.row.SV-Modules.Denot)
-    × g.SV.Modules.HttpModule.allows made call) _ _ (place.Behind (called.Made c.match-replace.kept)) _ _
+    × g.SV.Modules.HttpModule.allows made call) _ _
+    (place.Behind (called.Made c.match-replace.kept)) _ _
     (rw c.in_ok-context.ensures.place at c.in_ok-context.ensures.opens))

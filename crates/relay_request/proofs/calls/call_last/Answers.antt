@@ -17,7 +17,8 @@ returns-clause-turns g c = record {
   turns = inr (λ start may. last_app (g.SV.ProxyHttp.allows c.args.app.now)
       (AllowsMade g.SV.Modules.HttpModule.allows None)
       (λ (call : ModuleCall). (made : g.row.SV-Modules.Denot)
-      × g.SV.Modules.HttpModule.allows made call) start c.args.goes_back c.into_closing-context.result.1
+      × g.SV.Modules.HttpModule.allows made call) start c.args.goes_back
+      c.into_closing-context.result.1
       _ _ _ _ c.take_turn-place.result (c.take_turn-place.ensures.turns None start may));
 }
 
@@ -27,8 +28,10 @@ returns-clause-counts g c =
     let some = some_begin c.into_closing-context.result.1 in
     last_counts (IsAllowed (g.SV.ProxyHttp.allows c.args.app.now)
     (AllowsMade g.SV.Modules.HttpModule.allows None)) c.args.goes_back some.0
-    c.into_closing-context.result.1 c.args.calls.now _ _ _ c.take_turn-place.result c.work_behind-work.result
-    (closing_calls c.args.calls.now.at c.into_closing-context.result.0 c.into_closing-context.result.1
+    c.into_closing-context.result.1 c.args.calls.now _ _ _ c.take_turn-place.result
+    c.work_behind-work.result
+    (closing_calls c.args.calls.now.at c.into_closing-context.result.0
+    c.into_closing-context.result.1
     c.args.goes_back (rw c.replace.ensures.value at c.into_closing-context.ensures) c.requires)
     (c.take_turn-place.ensures.turns None some.0 some.1) c.work_behind-work.ensures
 

@@ -27,7 +27,8 @@ returns-in-Opening-Behind g c =
     let app = g.SV.ProxyHttp.allows c.args.app.now in
     let allows = g.SV.Modules.HttpModule.allows in
     rw (c.in-Opening-Behind.is, c.in-Opening-Behind.field-0-is)
-    (TakesNext.leads refl (next_hook c.in-Opening-Behind.last (is_some c.args.session.now.modules)) refl
+    (TakesNext.leads refl (next_hook c.in-Opening-Behind.last (is_some c.args.session.now.modules))
+    refl
     c.take_turn.result refl
     (TurnsOn-wider _ _
     (λ st e allowed. IsAllowed-wider app app _
@@ -65,7 +66,8 @@ returns-in-Ok-name_peer g c =
     let here = c.in-Opening-Ended-Attempts in
     let names = NamesPeer-within (g.SV.ProxyHttp.allows c.args.app.now)
     (λ (call : ModuleCall). (made : g.row.SV-Modules.Denot)
-    × g.SV.Modules.HttpModule.allows made call) _ _ _ _ (Ok c.in-Ok-name_peer.peer) c.in-Ok-name_peer.ensures.names in
+    × g.SV.Modules.HttpModule.allows made call) _ _ _ _ (Ok c.in-Ok-name_peer.peer)
+    c.in-Ok-name_peer.ensures.names in
     rw (here.is, here.field-0-is, here.field-0-0-is)
     (TakesNext.tried (record {
       later = refl;

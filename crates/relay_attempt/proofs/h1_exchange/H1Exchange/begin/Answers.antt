@@ -1,6 +1,6 @@
 -- An exchange begins once its head was queued, with what is kept of the body; it is not begun where
 -- the head is refused.
-use Rattle.std.proofs.Common.{◌≡◌, Bool, false, ◌||◌, [], Some, refl, sym, ap, subst, ◌∙◌}
+use Rattle.std.proofs.Common.{Bool, false, ◌||◌, [], Some, refl, sym, ap, subst, ◌∙◌}
 use Rattle.std.proofs.lemmas.List.Elements.{All-nil}
 use Rattle.relay_tasks.specs.Head.{RequestHead}
 use Rattle.relay_links.specs.Link.{IsHandedOut}
@@ -12,7 +12,6 @@ use Rattle.relay_sides.specs.Client.{BeginsBehind, begun_past, put_again}
 use Rattle.relay_sides.proofs.ClientPast.{end_is}
 use Rattle.relay_peer.specs.Peer as peer
 use Rattle.relay_peer.specs.Peer.{none_passed}
-use Rattle.relay_sides.specs.declared.client_side.ClientSide.{ClientSide}
 use Rattle.relay_sides.specs.Filtered.{HasRoom, is_head_request, state_over, stops_for_error}
 use Rattle.relay_sides.specs.declared.filtered.Filtered.{Filtered}
 use Rattle.relay_peer.specs.declared.peer_side.PeerSide.{PeerSide}
@@ -30,22 +29,22 @@ pub returns-clause-begins : goal.returns-clause-begins
 returns-clause-begins g c =
     let state = g.L.ByteLink.state in
     let start_at = g.L.ByteLink.start in
-    let down = c.new-client.result in
+    let down = c.new-down.result in
     let up = c.new-upstream.result in
     let value = c.is_body_done-body_done.ensures.value in
-    let done = ap (λ (x : HttpSession). is_body_done x.reading) c.new-client.ensures.session
+    let done = ap (λ (x : HttpSession). is_body_done x.reading) c.new-down.ensures.session
     ∙ sym value in
     let session = c.args.session in
     let put = put_again session in
     λ s came link ahead reused own none behind out used.
-    let Begun : Exchange ClientSide (Filtered (PeerSide g.row.L.Denot)) → Type 0 = λ x.
+    let Begun : Exchange (Filtered (PeerSide g.row.L.Denot)) → Type 0 = λ x.
     IsUnderWay state start_at s (record { came = came; written = []; got = []; sent = [] }) link
-    ahead (record { exchange = x }) in
+    ahead (record { down = down; exchange = x }) in
     subst Begun (sym c.begin-exchange.ensures.exact)
     (under_way state start_at s (begun_past came put) none_passed link ahead
     (record {
+      down = down;
       exchange = record {
-        down = down;
         up = up;
         duplex = c.begin-exchange.result.duplex;
         stage = stage.Head;
@@ -57,7 +56,7 @@ returns-clause-begins g c =
     (state_over (peer.state_of up.inner) up.upgraded up.stopped up.told)
     (begun_past came put) none_passed
     (record {
-      down_holds = c.new-client.ensures.begins s came link ahead behind;
+      down_holds = c.new-down.ensures.begins s came link ahead behind;
       up_holds = subst
           (λ (u : Filtered (PeerSide g.row.L.Denot)). UpHolds state start_at u s none_passed)
           (sym c.new-upstream.ensures)
@@ -102,7 +101,7 @@ returns-clause-begins g c =
     c.begin-exchange.result.duplex c.begin-exchange.ensures.fresh
     (c.begin-exchange.ensures.sound
     (client.state_of down.session down.told down.done down.finished down.broken) done))
-    (ap (λ (t : Told). t.errors) c.new-client.ensures.told))
+    (ap (λ (t : Told). t.errors) c.new-down.ensures.told))
 
 -- one whose head was refused has not
 pub returns-in-Err-clause-refused : goal.returns-in-Err-clause-refused

@@ -59,7 +59,8 @@ returns-then-is_stop-clause-processes g c =
     (behind_most s before.legs
     ∙ ap (λ (k : HttpProxy g.row.SV.Denot g.row.K.Denot g.row.P.Denot). k.conf.max_retries)
     (sym c.loop-turn.invariant.6))
-    (behind_first s before.legs ∙ sym c.loop-turn.invariant.11) c.loop-turn.invariant.9 before.run in
+    (behind_first s before.legs ∙ sym c.loop-turn.invariant.11) c.loop-turn.invariant.9 before.run
+    in
     let under = steps_under state start s (log_of c.loop-turn.machine.calls)
     (log_of c.step-step.new.machine.calls) _ _ _ _ _ _ _ _ _ _ _ _
     c.loop-turn.machine.machine c.step-step.new.machine.machine _ _ before c.step-step.ensures.front
@@ -151,7 +152,8 @@ loop-turn-preserved g c =
       c.step-step.ensures.first ∙ c.loop-turn.invariant.11,
       purged_on (g.P.Purger.state c.args.self.now.purger)
           (g.P.Purger.state c.loop-turn.self.purger) (g.P.Purger.state c.step-step.new.self.purger)
-          (log_of c.loop-turn.machine.calls) c.loop-turn.invariant.12 (log_of c.step-step.new.machine.calls)
+          (log_of c.loop-turn.machine.calls) c.loop-turn.invariant.12
+          (log_of c.step-step.new.machine.calls)
           c.step-step.new.machine.machine.phase
           (λ lost. true≢false
           (sym (lost_done c.step-step.new.machine.machine.phase c.step-step.new.machine.calls.at
@@ -239,7 +241,8 @@ returns-then-is_stop-clause-purger g c =
     rw (c.close.ensures.same, c.close.ensures.log)
     (purged_end (g.P.Purger.state c.args.self.now.purger)
     (g.P.Purger.state c.loop-turn.self.purger) (g.P.Purger.state c.step-step.new.self.purger)
-    (log_of c.loop-turn.machine.calls) c.loop-turn.invariant.12 (log_of c.step-step.new.machine.calls)
+    (log_of c.loop-turn.machine.calls) c.loop-turn.invariant.12
+    (log_of c.step-step.new.machine.calls)
     c.step-step.new.machine.machine.phase c.close.result.outcome c.close.ensures.lost
     (c.step-step.ensures.purger c.loop-turn.invariant.9))
 

@@ -1,5 +1,5 @@
 -- Each answer of the session is a piece, and what passed goes on with it.
-use Rattle.std.proofs.Common.{ap, inl, inr}
+use Rattle.std.proofs.Common.{ap, inl}
 use Rattle.std.specs.Prelude.{◌&&◌}
 use Rattle.relay_session.specs.Reading.{is_body_done}
 use Rattle.relay_session.specs.declared.session.HttpSession.{HttpSession}
@@ -98,11 +98,11 @@ pub returns-clause-puts : goal.returns-clause-puts
 returns-clause-puts g c =
     rw c.piece_answer-piece.ensures
     (λ s p h piece is.
-    inr (inl (client_puts s p (g.F.Front.state c.args.client.now)
+    inl (client_puts s p (g.F.Front.state c.args.client.now)
     (g.F.Front.state c.read_body_or_idle-took.new.client) (g.F.Front.ahead c.args.client.now)
     (g.F.Front.ahead c.read_body_or_idle-took.new.client) c.args.self.now.session
     c.read_body_or_idle-took.new.self c.read_body_or_idle-took.result c.is_body_done.result
-    piece h.passed.client (left g c) is)))
+    piece h.passed.client (left g c) is))
 
 -- the head stands, and nothing was queued
 pub returns-clause-lasts : goal.returns-clause-lasts
