@@ -1,5 +1,5 @@
 -- An attempt that puts again what was read before: that passed the filter of requests by one call.
-use Rattle.std.proofs.Common.{◌≡◌, ℕ, Bool, true, false, List, [], drop, length, Option, Some, None, Err, refl, ap, subst, ◌∙◌, IsSome}
+use Rattle.std.proofs.Common.{◌≡◌, ℕ, Bool, true, false, List, [], drop, length, Option, Some, None, is_some, Err, refl, ap, subst, ◌∙◌, IsSome}
 use Rattle.std.specs.List.{list_any}
 use Rattle.relay_tasks.specs.Task.{is_end}
 use Rattle.relay_tasks.specs.declared.error.Error.{Error}
@@ -11,8 +11,9 @@ use Rattle.relay_links.specs.Link.{LinkState}
 use Rattle.relay_session.specs.Reading.{head_of}
 use Rattle.relay_session.specs.declared.session.HttpSession.{HttpSession}
 use Rattle.relay_core.specs.Past.{DownGoes, DownPast, Origin, error_of_fail}
-use Rattle.relay_core.specs.Piece.{put_of}
+use Rattle.relay_core.specs.Piece.{put_of, task_put_of}
 use Rattle.relay_core.specs.declared.piece.Piece.{Piece}
+use Rattle.relay_core.specs.declared.told.Told.{Told}
 use Rattle.relay_modules.specs.declared.seen.Seen.{Seen}
 use Rattle.relay_hooks.specs.Standing.{Standing}
 use Rattle.relay_sides.specs.Filtered.{is_head_request}
@@ -23,7 +24,7 @@ use Rattle.relay_filters.specs.Segments.{InSegments}
 use Rattle.relay_filters.proofs.LentSide.{Swapped, lent_past, lost_past}
 use Rattle.relay_filters.proofs.OutcomeLemmas.{call_client}
 use Rattle.relay_filters.proofs.SegmentLemmas.{own_none, segments_none, segments_piece, segments_refused}
-use Rattle.relay_filters.proofs.SideLemmas.{begins, reads_piece, stops_at}
+use Rattle.relay_filters.proofs.SideLemmas.{Comes, begins, reads_piece, stops_at}
 
 -- ---- pasts
 
@@ -58,11 +59,16 @@ weaker inner inner' method c called log oh a ended u rf stood st p so h = record
 
 -- ---- the piece
 
+-- before the first no end came
+none_first : list_any is_end [] ≡ true → ⊥
+none_first ended = cc
+
 module _ (s : Origin) (link : LinkState) (ahead : List ℕ) (side lent : ClientSide)
     (app : Standing → LogEntry → Type 0) (method : List ℕ) (called : List LogEntry) (seen : Seen)
     (mark : ℕ) (oh : Bool) (p : DownPast) (piece : Piece) (seen' : Seen) (mark' : ℕ)
     (stood : called ≡ seen.log) (head : IsSome (head_of side.session.reading))
-    (is_put : p.put ≡ put_of false piece) (none : p.batched ≡ [])
+    (is_put : p.put ≡ put_of false piece) (puts : is_some (task_put_of false piece) ≡ true)
+    (none : p.batched ≡ [])
     (ends : is_last piece ≡ true → list_any is_end (put_of false piece) ≡ true)
     (own : oh ≡ is_head_request method) (rest : Swapped side lent)
     (holds : PastBy s link ahead side side.session p)
@@ -73,6 +79,10 @@ module _ (s : Origin) (link : LinkState) (ahead : List ℕ) (side lent : ClientS
     untold =
         begins (λ q. Unit {0}) method side.session called seen.log oh false false
         (record p { put = [] }) stood head refl none own tt
+
+    -- the piece is the first that comes
+    abbrev comes : Comes false piece []
+    comes = record { puts = puts; first = none_first; ends = ends }
 
     -- the same bytes passed
     abbrev Same : DownPast → Type 0
@@ -116,9 +126,9 @@ module _ (s : Origin) (link : LinkState) (ahead : List ℕ) (side lent : ClientS
     again_reads made f =
         settled None made.upstream_end (put_of false made) _ None
         (reads_piece (λ q. Unit {0}) (λ q. InnerPast None s link ahead lent q × Same q)
-        (λ q e. Unit {0}) app method (seen_by seen side.session) mark called oh false false false
+        (λ q e. Unit {0}) (λ e. Unit {0}) app method (seen_by seen side.session) mark called oh false false false
         false false true None (record p { put = [] }) piece made (seen_by seen' lent.session) mark'
-        refl untold refl ends f
+        refl untold refl comes f
         (again_puts None (lent_past s link ahead side lent p rest
         (call_client app _ _ (seen_by seen side.session) mark (seen_by seen' lent.session) mark' _
         f.call) holds)))
@@ -134,17 +144,17 @@ module _ (s : Origin) (link : LinkState) (ahead : List ℕ) (side lent : ClientS
         f.call) holds
 
     -- it was refused, or memory was wanted
-    pub again_stops : (why : Fail)
+    pub again_stops : (told : Told) (why : Fail)
         → Filters app false piece (Err why) (seen_by seen side.session) mark
         (seen_by seen' lent.session) mark'
         → IsHooked (InnerPast (Some why) s link ahead lent) method lent.session called seen'.log oh
         false false false false true (Some why) (record p { put = [] })
-    again_stops why f =
+    again_stops told why f =
         settled (Some why) false [] _ (error_of_fail why)
         (stops_at (λ q. Unit {0}) (λ q. InnerPast (Some why) s link ahead lent q × Same q)
-        (λ q e. Unit {0}) app method (seen_by seen side.session) mark called oh false false false
+        (λ q e. Unit {0}) told app method (seen_by seen side.session) mark called oh false false false
         false false true None (record p { put = [] }) piece why [] (seen_by seen' lent.session)
-        mark' refl untold refl refl ends f (again_puts (Some why) (fails_so why f)))
+        mark' refl untold refl refl comes f (again_puts (Some why) (fails_so why f)))
 
     -- the call stands alone among the side's own
     abbrev first_calls : InSegments oh None (drop (length called) seen.log)

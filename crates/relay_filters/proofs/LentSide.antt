@@ -1,6 +1,6 @@
 -- A side whose client's session hooks are lent: what passed by its inner side, which reads and
 -- writes that session, and by the filters, which are shown it.
-use Rattle.std.proofs.Common.{◌≡◌, ℕ, Bool, true, false, ◌||◌, ◌&&◌, List, [], ◌++◌, Option, Some, None, Ok, Err, append-nil, refl, sym, ap, subst, true≢false, ◌∙◌, IsSome}
+use Rattle.std.proofs.Common.{◌≡◌, ℕ, ◌⊎◌, Bool, true, false, ◌||◌, ◌&&◌, List, [], ◌++◌, drop, length, Option, Some, None, is_some, option_to_list, Ok, Err, arith, inl, inr, append-nil, refl, sym, ap, subst, true≢false, ◌∙◌, IsSome}
 use Rattle.std.specs.List.{list_any}
 use Rattle.relay_tasks.specs.Head.{RequestHead}
 use Rattle.relay_tasks.specs.Task.{is_end}
@@ -12,9 +12,12 @@ use Rattle.relay_tasks.specs.declared.task.HttpTask.{HttpTask}
 use Rattle.relay_links.specs.Link.{LinkState}
 use Rattle.relay_session.specs.Reading.{head_of, is_body_done}
 use Rattle.relay_session.specs.declared.session.HttpSession.{HttpSession}
+use Rattle.relay_core.specs.Down.{GivesPiece}
+use Rattle.relay_core.specs.Uses.{PutsOrCalls}
+use Rattle.relay_core.specs.declared.told.Told.{Told}
 use Rattle.relay_core.specs.Past.{BatchRefused, DownGoes, DownPast, Origin, error_of_fail}
 use Rattle.relay_core.specs.Pipe.{is_failure}
-use Rattle.relay_core.specs.Piece.{put_of}
+use Rattle.relay_core.specs.Piece.{put_of, task_put_of}
 use Rattle.relay_core.specs.declared.piece.Piece.{Piece}
 use Rattle.relay_modules.specs.declared.seen.Seen.{Seen}
 use Rattle.relay_hooks.specs.Standing.{Standing}
@@ -24,9 +27,9 @@ use Rattle.relay_sides.proofs.LentLemmas.{IsSide-lent}
 use Rattle.relay_filters.specs.Chain.{Refuses}
 use Rattle.relay_filters.specs.Request.{Filtered, Filters, is_last}
 use Rattle.relay_filters.specs.Response.{BatchPasses, BatchStops, Outcome}
-use Rattle.relay_filters.specs.Hooked.{BlamesOver, InnerPast, IsHooked, PastBy, PastOf, RefusesOver, inside, is_lost, refused_at_once, seen_by}
+use Rattle.relay_filters.specs.Hooked.{BlamesInside, BlamesOver, InnerPast, IsHooked, PastBy, PastOf, RefusesOver, inside, is_lost, refused_at_once, seen_by, state_of_side}
 use Rattle.relay_filters.proofs.OutcomeLemmas.{call_client}
-use Rattle.relay_filters.proofs.SideLemmas.{batch_goes, batch_refused, batch_stops, goes_on, reads_piece, stops_at}
+use Rattle.relay_filters.proofs.SideLemmas.{Comes, batch_goes, batch_refused, batch_stops, goes_on, reads_piece, stops_at}
 
 -- ---- a session that is lost, or not
 
@@ -130,8 +133,8 @@ lost_past s link ahead side side' q rest h =
 
 -- no filter was called
 pub client_goes : (s : Origin) (link link' : LinkState) (ahead ahead' : List ℕ)
-    (side side' : ClientSide) (blames' : DownPast → Error → Type 0) (method : List ℕ)
-    (called log : List LogEntry) (oh a ended rf stood : Bool) (st : Option Fail) (p : DownPast)
+    (side side' : ClientSide) (blames' : DownPast → Error → Type 0) (by : Error → Type 0)
+    (method : List ℕ) (called log : List LogEntry) (oh a ended rf stood : Bool) (st : Option Fail) (p : DownPast)
     (put_in put batched_in batched closing : List HttpTask) (error : Option Error)
     (h : IsHooked (InnerPast st s link ahead side) method side.session called log oh a ended false
     rf stood st p)
@@ -139,11 +142,11 @@ pub client_goes : (s : Origin) (link link' : LinkState) (ahead ahead' : List ℕ
     → put_in ≡ h.came → put ≡ p.put → batched_in ≡ h.queued → batched ≡ p.batched
     → DownGoes (PastBy s link' ahead' side' side'.session) blames' put_in batched_in closing error
     → DownGoes (IsHooked (InnerPast st s link' ahead' side') method side'.session called log oh a
-    ended false rf stood st) (λ past e. BlamesOver (InnerPast st s link' ahead' side') blames' st
-    past e) put batched closing error
-client_goes s link link' ahead ahead' side side' blames' method called log oh a ended rf stood st p
+    ended false rf stood st) (λ past e. BlamesInside (InnerPast st s link' ahead' side') blames'
+    past e ⊎ by e) put batched closing error
+client_goes s link link' ahead ahead' side side' blames' by method called log oh a ended rf stood st p
     put_in put batched_in batched closing error h known head is same is' same' g =
-    goes_on (InnerPast st s link ahead side) (InnerPast st s link' ahead' side') blames' method
+    goes_on (InnerPast st s link ahead side) (InnerPast st s link' ahead' side') blames' by method
     side'.session called log oh a ended ended false false rf stood st p put_in put batched_in
     batched closing error
     (moved (InnerPast st s link ahead side) method side.session side'.session called log oh a ended
@@ -155,6 +158,18 @@ client_goes s link link' ahead ahead' side side' blames' method called log oh a 
 
 -- ---- a piece
 
+-- the inner side calls no hook, so each of its pieces puts a task
+pub puts_task : (side given : ClientSide) (piece : Piece)
+    → PutsOrCalls (state_of_side side) (state_of_side given) piece
+    → is_some (task_put_of false piece) ≡ true
+puts_task side given piece (inl puts) = puts
+puts_task side given piece (inr called) = absurd (omega (arith, called))
+
+-- something that is put is not nothing
+puts_none : (o : Option HttpTask) → is_some o ≡ true → option_to_list o ≡ [] → ⊥
+puts_none None some none = cc
+puts_none (Some task) some none = cc
+
 -- the inner side gave a piece, and hooks were lent the session behind that
 module _ (s : Origin) (link link' : LinkState) (ahead ahead' : List ℕ)
     (side given lent : ClientSide) (blames' : DownPast → Error → Type 0)
@@ -165,6 +180,8 @@ module _ (s : Origin) (link link' : LinkState) (ahead ahead' : List ℕ)
     false rf stood st p)
     (head : head_of given.session.reading ≡ head_of side.session.reading)
     (rest : Swapped given lent)
+    (gives : GivesPiece (state_of_side side) (state_of_side given) piece)
+    (puts : PutsOrCalls (state_of_side side) (state_of_side given) piece)
     (done : is_last piece ≡ true → is_body_done given.session.reading ≡ true)
     (g : DownGoes (PastBy s link' ahead' given given.session) blames'
     (h.came ++ put_of false piece) h.queued p.closing None) where
@@ -172,6 +189,18 @@ module _ (s : Origin) (link link' : LinkState) (ahead ahead' : List ℕ)
   end_came : is_last piece ≡ true → list_any is_end (h.came ++ put_of false piece) ≡ true
   end_came last =
       ap (list_any is_end) (sym g.is_put) ∙ g.stands.passed.client.whole (done last)
+
+  -- nothing came behind an end
+  none_ended : list_any is_end h.came ≡ true → ⊥
+  none_ended ended =
+      let before = past_of (is_lost st) (PastBy s link ahead side) side.session
+      (inside p h.came h.queued) (not_lost st on) h.holds in
+      puts_none (task_put_of false piece) (puts_task side given piece puts)
+      (gives.nothing_behind (before.passed.client.ended ended))
+
+  -- it comes behind what came
+  abbrev comes : Comes false piece h.came
+  comes = record { puts = puts_task side given piece puts; first = none_ended; ends = end_came }
 
   -- before the hooks were called
   abbrev at_call : IsHooked (InnerPast st s link ahead side) method given.session called seen.log oh
@@ -181,19 +210,19 @@ module _ (s : Origin) (link link' : LinkState) (ahead ahead' : List ℕ)
       ended false rf stood st p head h
 
   -- it passed
-  pub lent_reads : (made : Piece)
+  pub lent_reads : (by : Error → Type 0) (made : Piece)
       → Filtered app ended piece made (seen_by seen given.session) mark
       (seen_by seen' lent.session) mark'
       → DownGoes (IsHooked (InnerPast st s link' ahead' lent) method lent.session called seen'.log oh
       a (ended || made.upstream_end) false rf stood st)
-      (λ past e. BlamesOver (InnerPast st s link' ahead' lent) blames' st past e)
+      (λ past e. BlamesInside (InnerPast st s link' ahead' lent) blames' past e ⊎ by e)
       (p.put ++ put_of false made) p.batched p.closing None
-  lent_reads made f =
+  lent_reads by made f =
       let same = call_client app _ _ (seen_by seen given.session) mark
       (seen_by seen' lent.session) mark' _ f.call in
-      reads_piece (InnerPast st s link ahead side) (InnerPast st s link' ahead' lent) blames' app
+      reads_piece (InnerPast st s link ahead side) (InnerPast st s link' ahead' lent) blames' by app
       method (seen_by seen given.session) mark called oh a ended false false rf stood st p
-      piece made (seen_by seen' lent.session) mark' on at_call refl end_came f
+      piece made (seen_by seen' lent.session) mark' on at_call refl comes f
       (goes_so (PastBy s link' ahead' given given.session) (InnerPast st s link' ahead' lent)
       blames' (h.came ++ put_of false piece) h.queued p.closing None
       (λ q stands. of_past (is_lost st) (PastBy s link' ahead' lent) lent.session q
@@ -212,18 +241,19 @@ module _ (s : Origin) (link link' : LinkState) (ahead ahead' : List ℕ)
       f.call) stands
 
   -- it was refused, or memory was wanted
-  pub lent_stops : (why : Fail)
+  pub lent_stops : (told' : Told) (why : Fail)
       → Filters app ended piece (Err why) (seen_by seen given.session) mark
       (seen_by seen' lent.session) mark'
       → DownGoes (IsHooked (InnerPast (Some why) s link' ahead' lent) method lent.session called
       seen'.log oh a ended false rf stood (Some why))
-      (λ past e. BlamesOver (InnerPast (Some why) s link' ahead' lent) blames' (Some why) past e)
+      (λ past e. BlamesOver (InnerPast (Some why) s link' ahead' lent) blames' (Some why) told'
+      (drop (length called) seen'.log) past e)
       (p.put ++ []) p.batched p.closing (error_of_fail why)
-  lent_stops why f =
+  lent_stops told' why f =
       stops_at (InnerPast st s link ahead side) (InnerPast (Some why) s link' ahead' lent) blames'
-      app method (seen_by seen given.session) mark called oh a ended false false rf stood st
+      told' app method (seen_by seen given.session) mark called oh a ended false false rf stood st
       p piece why (p.put ++ []) (seen_by seen' lent.session) mark' on at_call refl
-      (append-nil p.put) end_came f
+      (append-nil p.put) comes f
       (goes_so (PastBy s link' ahead' given given.session)
       (InnerPast (Some why) s link' ahead' lent) blames' (h.came ++ put_of false piece) h.queued
       p.closing None (fails_so why f) g)
@@ -267,7 +297,7 @@ module _ (s : Origin) (link : LinkState) (ahead : List ℕ) (side lent : ClientS
       h.holds)
 
   -- the inner side queued what they made
-  pub lent_batch : (took : ClientSide) (blames' : DownPast → Error → Type 0)
+  pub lent_batch : (took : ClientSide) (blames' : DownPast → Error → Type 0) (by : Error → Type 0)
       (made : List HttpTask)
       → head_of took.session.reading ≡ head_of lent.session.reading
       → (out : Outcome allows (λ es out. BatchPasses oh stand tasks es out)
@@ -277,19 +307,19 @@ module _ (s : Origin) (link : LinkState) (ahead : List ℕ) (side lent : ClientS
       None
       → DownGoes (IsHooked (InnerPast st s link ahead took) method took.session called seen'.log oh
       a ended false rf (stood && stand) st)
-      (λ past e. BlamesOver (InnerPast st s link ahead took) blames' st past e) p.put
+      (λ past e. BlamesInside (InnerPast st s link ahead took) blames' past e ⊎ by e) p.put
       (p.batched ++ tasks) p.closing None
-  lent_batch took blames' made head out g =
+  lent_batch took blames' by made head out g =
       goes_so
       (IsHooked (InnerPast st s link ahead took) method lent.session called seen'.log oh a ended
       false rf (stood && stand) st)
       (IsHooked (InnerPast st s link ahead took) method took.session called seen'.log oh a ended
       false rf (stood && stand) st)
-      (λ past e. BlamesOver (InnerPast st s link ahead took) blames' st past e) p.put
+      (λ past e. BlamesInside (InnerPast st s link ahead took) blames' past e ⊎ by e) p.put
       (p.batched ++ tasks) p.closing None
       (λ q stands. moved (InnerPast st s link ahead took) method lent.session took.session called
       seen'.log oh a ended false rf (stood && stand) st q head stands)
-      (batch_goes (InnerPast st s link ahead side) (InnerPast st s link ahead took) blames' allows
+      (batch_goes (InnerPast st s link ahead side) (InnerPast st s link ahead took) blames' by allows
       method (seen_by seen side.session) mark called oh a ended ended false false rf stood stand st
       has p tasks made (seen_by seen' lent.session) mark' on h (λ low. (refl, refl)) out
       (goes_so (PastBy s link ahead took took.session) (InnerPast st s link ahead took) blames'
@@ -298,7 +328,7 @@ module _ (s : Origin) (link : LinkState) (ahead : List ℕ) (side lent : ClientS
 
   -- it refused it
   pub lent_refused : (took : ClientSide) (refuses' : DownPast → List HttpTask → Error → Type 0)
-      (made : List HttpTask) (why : Fail)
+      (told' : Told) (made : List HttpTask) (why : Fail)
       → head_of took.session.reading ≡ head_of lent.session.reading
       → list_any is_failure made ≡ list_any is_failure tasks
       → (out : Outcome allows (λ es out. BatchPasses oh stand tasks es out)
@@ -309,21 +339,21 @@ module _ (s : Origin) (link : LinkState) (ahead : List ℕ) (side lent : ClientS
       → BatchRefused (IsHooked (InnerPast st s link ahead took) method took.session called
       seen'.log oh a ended false true (stood && stand) st)
       (λ past left e.
-      RefusesOver (InnerPast st s link ahead took) refuses' oh (stood && stand) stand true st called
-      seen'.log past left e) p tasks why
-  lent_refused took refuses' made why head failures out g =
+      RefusesOver (InnerPast st s link ahead took) refuses' oh (stood && stand) stand true st told'
+      called seen'.log past left e) p tasks why
+  lent_refused took refuses' told' made why head failures out g =
       refused_so
       (IsHooked (InnerPast st s link ahead took) method lent.session called seen'.log oh a ended
       false true (stood && stand) st)
       (IsHooked (InnerPast st s link ahead took) method took.session called seen'.log oh a ended
       false true (stood && stand) st)
       (λ past left e.
-      RefusesOver (InnerPast st s link ahead took) refuses' oh (stood && stand) stand true st called
-      seen'.log past left e) p tasks why
+      RefusesOver (InnerPast st s link ahead took) refuses' oh (stood && stand) stand true st told'
+      called seen'.log past left e) p tasks why
       (λ q stands. moved (InnerPast st s link ahead took) method lent.session took.session called
       seen'.log oh a ended false true (stood && stand) st q head stands)
       (batch_refused (InnerPast st s link ahead side) (InnerPast st s link ahead took) refuses'
-      allows method (seen_by seen side.session) mark called oh a ended false false rf stood stand st
+      told' allows method (seen_by seen side.session) mark called oh a ended false false rf stood stand st
       has p tasks made why (seen_by seen' lent.session) mark' on h (λ low. refl) failures out
       (refused_so (PastBy s link ahead took took.session) (InnerPast st s link ahead took) refuses'
       (inside p h.came h.queued) made why
@@ -341,7 +371,7 @@ module _ (s : Origin) (link : LinkState) (ahead : List ℕ) (side lent : ClientS
       lent_past s link ahead side lent q rest adds.client stands
 
   -- a filter refused it, or memory was wanted
-  pub lent_fails : (refuses : DownPast → List HttpTask → Error → Type 0) (why : Fail)
+  pub lent_fails : (refuses : DownPast → List HttpTask → Error → Type 0) (told' : Told) (why : Fail)
       → Outcome {Y = List HttpTask} allows (λ es out. BatchPasses oh stand tasks es out)
       (BatchStops oh stand tasks) (Refuses oh) (Err why) (seen_by seen side.session) mark
       (seen_by seen' lent.session) mark'
@@ -349,10 +379,10 @@ module _ (s : Origin) (link : LinkState) (ahead : List ℕ) (side lent : ClientS
       seen'.log oh a ended false rf stood (Some why))
       (λ past left e.
       RefusesOver (InnerPast (Some why) s link ahead lent) refuses oh stood stand rf (Some why)
-      called seen'.log past left e) p tasks why
-  lent_fails refuses why out =
+      told' called seen'.log past left e) p tasks why
+  lent_fails refuses told' why out =
       batch_stops (InnerPast st s link ahead side) (InnerPast (Some why) s link ahead lent) refuses
-      allows method (seen_by seen side.session) mark called oh a ended false rf stood stand st has p
+      told' allows method (seen_by seen side.session) mark called oh a ended false rf stood stand st has p
       tasks why (seen_by seen' lent.session) mark' on
       (λ q stands. batch_fails why out q
       (past_of (is_lost st) (PastBy s link ahead side) side.session q known stands)) h out

@@ -12,3 +12,5 @@ mod StateLemmas
 mod SegmentLemmas
 mod QuietLemmas
 mod AgainLemmas
+pub mod PassedLemmas
+pub mod LastLemmas

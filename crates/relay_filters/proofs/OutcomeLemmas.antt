@@ -1,29 +1,31 @@
 -- What calls add to the log: one call, two behind each other, and what several filters come to.
-use Rattle.std.proofs.Common.{◌≡◌, ℕ, Bool, true, false, List, [], ◌∷◌, ◌++◌, Option, Some, None, Result, Ok, Err, refl, sym, ap, subst, ◌∙◌, append-nil, append_assoc, IsSome}
+use Rattle.std.proofs.Common.{◌≡◌, ℕ, Bool, true, false, ◌||◌, List, [], ◌∷◌, ◌++◌, Option, Some, None, Result, Ok, Err, refl, sym, ap, subst, ◌∙◌, append-nil, append_assoc, IsSome}
+use Rattle.std.proofs.lemmas.List.Elements.{All-append, All-cons, All-nil}
 use Rattle.relay_tasks.specs.declared.error.Error.{Error}
 use Rattle.relay_tasks.specs.declared.error.Fail.{Fail}
 use Rattle.relay_tasks.specs.declared.error.Fail.TheVariants as fail
 use Rattle.relay_tasks.specs.declared.hook.Hook.{Hook}
+use Rattle.relay_tasks.specs.declared.hook.Hook.TheVariants as hook
 use Rattle.relay_tasks.specs.declared.log.Item.{Item}
 use Rattle.relay_tasks.specs.declared.log.LogEntry.{LogEntry}
 use Rattle.relay_tasks.specs.declared.task.HttpTask.{HttpTask}
 use Rattle.relay_session.specs.Reading.{head_of}
 use Rattle.relay_session.specs.Response.{has_head}
-use Rattle.relay_modules.specs.Module.{AllowsMade, ModuleCall, error_of, hook_of, input_of, output_of}
+use Rattle.relay_modules.specs.Module.{AllowsMade, ModuleCall, error_of, hook_of, input_of, output_of, request_body, request_header, response_body, response_done, response_header, response_trailer}
 use Rattle.relay_modules.specs.declared.seen.Seen.{Seen}
 use Rattle.relay_hooks.specs.Call.{Left, changed, delayed, entry}
 use Rattle.relay_hooks.specs.Session.{moment, request_head}
 use Rattle.relay_hooks.specs.Standing.{Standing, standing}
 use Rattle.relay_calls.specs.Calls.{Calls, Enters}
 use Rattle.relay_calls.specs.Entry.{cleared}
-use Rattle.relay_calls.specs.Log.{AllowsBy, IsAllowed, LeavesIf, is_module}
+use Rattle.relay_calls.specs.Log.{AllowsBy, IsAllowed, LeavesIf, filters_request, filters_response, is_module, is_module_response}
 use Rattle.relay_calls.specs.Modules.{CallsModule, called, module_entry, replied}
 use Rattle.relay_calls.proofs.CallLemmas.{CallsOf-walks}
 use Rattle.relay_calls.proofs.LogLemmas.{Views-same, Walk-append}
 use Rattle.relay_sides.specs.Lent.{SameButHead}
 use Rattle.relay_sides.proofs.LentLemmas.{lent_same, lent_twice}
 use Rattle.relay_filters.specs.Chain.{AllPass, Called, FrontPasses, Gave, Refuses, by_check, by_hook, checked}
-use Rattle.relay_filters.specs.Response.{Adds, AddsSome, Outcome, SomeAllow}
+use Rattle.relay_filters.specs.Response.{Adds, AddsSome, IsFilterCall, Outcome, SomeAllow}
 use Rattle.relay_filters.proofs.ChainLemmas.{all_append, all_one, refuses_behind}
 
 -- the chain of what did not pass: an error has none
@@ -38,6 +40,7 @@ pub adds_none : (allows : Standing → LogEntry → Type 0) (seen : Seen) (mark 
 adds_none allows seen mark head = record {
   log = sym (append-nil seen.log);
   walk = Views-same _;
+  plain = All-nil IsFilterCall;
   head = head;
   client = lent_same seen.downstream;
 }
@@ -50,6 +53,7 @@ adds_both allows old m mid m1 new m2 es fs a b = record {
   log = b.log ∙ ap (λ (l : List LogEntry). l ++ fs) a.log ∙ append_assoc old.log es fs;
   walk = Walk-append allows es fs (standing None false (moment old m))
       (standing None false (moment mid m1)) (standing None false (moment new m2)) a.walk b.walk;
+  plain = All-append IsFilterCall es fs a.plain b.plain;
   head = b.head;
   client = lent_twice old.downstream mid.downstream new.downstream a.client b.client;
 }
@@ -63,6 +67,7 @@ adds_some allows old m mid m1 new es fs a b = record {
   log = b.log ∙ ap (λ (l : List LogEntry). l ++ fs) a.log ∙ append_assoc old.log es fs;
   walk = Walk-append allows es fs (standing None false (moment old m))
       (standing None false (moment mid m1)) b.to a.walk b.walk;
+  plain = All-append IsFilterCall es fs a.plain b.plain;
 }
 
 -- what is added is more than some
@@ -72,6 +77,7 @@ adds_at_least allows old m new m1 es a = record {
   to = standing None false (moment new m1);
   log = a.log;
   walk = a.walk;
+  plain = a.plain;
 }
 
 -- no call was entered, and memory was wanted
@@ -81,9 +87,40 @@ adds_lost allows old m new is = record {
   to = standing None false (moment old m);
   log = is ∙ sym (append-nil old.log);
   walk = Views-same _;
+  plain = All-nil IsFilterCall;
 }
 
 -- ---- one call
+
+-- a filter of the application on the way of a response is none of the modules
+filter_no_module : (which : Hook) → filters_response which ≡ true → is_module which ≡ false
+filter_no_module hook.UpstreamResponseFilter is = refl
+filter_no_module hook.ResponseFilter is = refl
+filter_no_module hook.UpstreamResponseBodyFilter is = refl
+filter_no_module hook.ResponseBodyFilter is = refl
+filter_no_module hook.UpstreamResponseTrailerFilter is = refl
+filter_no_module hook.ResponseTrailerFilter is = refl
+filter_no_module other is = cc
+
+-- each call of modules is one of a filter of theirs
+module_filter : (call : ModuleCall) → is_module (hook_of call) ≡ true
+module_filter (request_header before left error) = refl
+module_filter (request_body before left end error) = refl
+module_filter (response_header before left end error) = refl
+module_filter (response_body before left end error) = refl
+module_filter (response_trailer before left answer error) = refl
+module_filter (response_done answer error) = refl
+
+-- one of three holds, since the second does
+either_mid : (a b c : Bool) → b ≡ true → (a || (b || c)) ≡ true
+either_mid true b c is = refl
+either_mid false b c is = ap (λ (x : Bool). x || c) is
+
+-- the same, since the last does
+either_last : (a b c : Bool) → c ≡ true → (a || (b || c)) ≡ true
+either_last true b c is = refl
+either_last false true c is = refl
+either_last false false c is = is
 
 -- of the client's session a call of the application changes no more than the head
 pub call_client : (app : Standing → LogEntry → Type 0) (which : Hook) (input : Item) (old : Seen)
@@ -101,7 +138,7 @@ call_client app which input old mark new mark' left call =
 -- a call of the application
 module _ (app : Standing → LogEntry → Type 0) (modules : ModuleCall → Type 0) (which : Hook)
     (input : Item) (old : Seen) (mark : ℕ) (new : Seen) (mark' : ℕ) (left : Left)
-    (is_app : is_module which ≡ false) (head : IsSome (head_of old.downstream.reading))
+    (is_app : filters_response which ≡ true) (head : IsSome (head_of old.downstream.reading))
     (call : Calls app which input old mark new mark' left) where
   -- its entry
   abbrev pub app_entry : LogEntry
@@ -110,7 +147,12 @@ module _ (app : Standing → LogEntry → Type 0) (modules : ModuleCall → Type
   pub adds_call : Adds (IsAllowed app modules) old mark new mark' (app_entry ∷ [])
   adds_call = record {
     log = call.log;
-    walk = CallsOf-walks app modules None false which input old mark new mark' left call is_app;
+    walk = CallsOf-walks app modules None false which input old mark new mark' left call
+        (filter_no_module which is_app);
+    plain = All-cons IsFilterCall app_entry [] (record {
+      is_filter = either_mid (filters_request which) _ _ is_app;
+      quiet = ap (λ (s : Seen). s.wrote) call.lawful.rest;
+    }) (All-nil IsFilterCall);
     head = subst (λ (s : Seen). IsSome (head_of s.downstream.reading)) (sym call.rest)
         (call.lawful.request.head head);
     client = call_client app which input old mark new mark' left call;
@@ -125,7 +167,7 @@ some_allows allows (Some m) call stand allowed = (m, allowed)
 -- a call of the modules
 module _ (app : Standing → LogEntry → Type 0) {M : Type 0} (allows : M → ModuleCall → Type 0)
     (m : Option M) (stand : IsSome m) (old : Seen) (mark : ℕ) (new : Seen) (call : ModuleCall)
-    (is_modules : is_module (hook_of call) ≡ true)
+    (is_modules : is_module_response (hook_of call) ≡ true)
     (head : IsSome (head_of old.downstream.reading))
     (made : CallsModule (AllowsMade allows m) old mark new call) where
   -- its entry
@@ -144,12 +186,12 @@ module _ (app : Standing → LogEntry → Type 0) {M : Type 0} (allows : M → M
         view = refl;
         by_module = subst (λ (b : Bool). LeavesIf b (standing None false (moment old mark))
             entry_of_modules)
-            (sym is_modules)
+            (sym (module_filter call))
             (record { mark = refl; keepalive = refl; wrote = refl; delay = refl });
       },
       subst (λ (b : Bool). AllowsBy b app (SomeAllow allows)
           (standing None false (moment old mark)) entry_of_modules)
-          (sym is_modules) (
+          (sym (module_filter call)) (
             call,
             record { hook = refl; input = refl; output = refl; error = refl },
             some_allows allows m call stand made.allowed,
@@ -164,6 +206,11 @@ module _ (app : Standing → LogEntry → Type 0) {M : Type 0} (allows : M → M
         upgraded = λ h. h;
       },
     );
+    plain = All-cons IsFilterCall entry_of_modules [] (record {
+      is_filter = either_last (filters_request (hook_of call)) (filters_response (hook_of call)) _
+          is_modules;
+      quiet = refl;
+    }) (All-nil IsFilterCall);
     head = subst (λ (s : Seen). IsSome (head_of s.downstream.reading)) (sym made.rest) head;
     client = subst (λ (s : Seen). SameButHead old.downstream s.downstream) (sym made.rest)
         (lent_same old.downstream);
@@ -229,7 +276,7 @@ pub call_fails : (T : Type 0) {Y : Type 0} (app : Standing → LogEntry → Type
     (modules : ModuleCall → Type 0) (which : Hook) (input output : Item) (old : Seen) (mark : ℕ)
     (new : Seen) (mark' : ℕ)
     (chain : List LogEntry → Y → Type 0) (feeds : List LogEntry → Type 0) (of_head : Bool)
-    (why : Fail) → is_module which ≡ false → IsSome (head_of old.downstream.reading)
+    (why : Fail) → filters_response which ≡ true → IsSome (head_of old.downstream.reading)
     → feeds [] → ((e : LogEntry) → Gave which input e → feeds (e ∷ []))
     → Enters (changed {T = T} output (Err why)) (Calls app which input old mark new mark') old new
     → Outcome (IsAllowed app modules) chain feeds (Refuses of_head) (Err why) old mark new mark'
@@ -247,7 +294,7 @@ call_fails T app modules which input output old mark new mark' chain feeds of_he
 pub delayed_fails : {Y : Type 0} (app : Standing → LogEntry → Type 0)
     (modules : ModuleCall → Type 0) (which : Hook) (input output : Item) (old : Seen) (mark : ℕ)
     (new : Seen) (mark' : ℕ) (chain : List LogEntry → Y → Type 0)
-    (feeds : List LogEntry → Type 0) (of_head : Bool) (why : Fail) → is_module which ≡ false
+    (feeds : List LogEntry → Type 0) (of_head : Bool) (why : Fail) → filters_response which ≡ true
     → IsSome (head_of old.downstream.reading) → feeds []
     → ((e : LogEntry) → Gave which input e → feeds (e ∷ []))
     → Enters (delayed output (Err why)) (Calls app which input old mark new mark') old new
@@ -268,7 +315,7 @@ pub module_fails : {M Y : Type 0} (app : Standing → LogEntry → Type 0)
     (made : Option Error → ModuleCall) (old : Seen) (mark : ℕ) (new : Seen)
     (chain : List LogEntry → Y → Type 0) (feeds : List LogEntry → Type 0) (of_head : Bool)
     (why : Fail)
-    → ((error : Option Error) → is_module (hook_of (made error)) ≡ true)
+    → ((error : Option Error) → is_module_response (hook_of (made error)) ≡ true)
     → ((error : Error) → error_of (made (Some error)) ≡ Some error)
     → IsSome (head_of old.downstream.reading) → feeds []
     → ((e : LogEntry) (error : Option Error)
@@ -291,7 +338,8 @@ module_fails app allows m stand made old mark new chain feeds of_head fail.OutOf
 pub module_passes : {M Y : Type 0} (app : Standing → LogEntry → Type 0)
     (allows : M → ModuleCall → Type 0) (m : Option M) (stand : IsSome m) (call : ModuleCall)
     (old : Seen) (mark : ℕ) (new : Seen) (chain : List LogEntry → Y → Type 0)
-    (feeds : List LogEntry → Type 0) (of_head : Bool) (y : Y) → is_module (hook_of call) ≡ true
+    (feeds : List LogEntry → Type 0) (of_head : Bool) (y : Y)
+    → is_module_response (hook_of call) ≡ true
     → error_of call ≡ None
     → IsSome (head_of old.downstream.reading)
     → ((e : LogEntry) → Called (hook_of call) (input_of call) (output_of call) e
@@ -309,7 +357,8 @@ module_passes app allows m stand call old mark new chain feeds of_head y are ok 
 pub module_refused : {M Y : Type 0} (app : Standing → LogEntry → Type 0)
     (allows : M → ModuleCall → Type 0) (m : Option M) (stand : IsSome m) (call : ModuleCall)
     (old : Seen) (mark : ℕ) (new : Seen) (chain : List LogEntry → Y → Type 0)
-    (feeds : List LogEntry → Type 0) (of_head : Bool) (e : Error) → is_module (hook_of call) ≡ true
+    (feeds : List LogEntry → Type 0) (of_head : Bool) (e : Error)
+    → is_module_response (hook_of call) ≡ true
     → error_of call ≡ None
     → checked (hook_of call) (output_of call) ≡ Some e
     → IsSome (head_of old.downstream.reading)
@@ -330,7 +379,7 @@ pub reply_fails : {M Y : Type 0} (app : Standing → LogEntry → Type 0)
     (allows : M → ModuleCall → Type 0) (m : Option M) (stand : IsSome m)
     (made : Option (List ℕ) → Option Error → ModuleCall) (old : Seen) (mark : ℕ) (new : Seen)
     (chain : List LogEntry → Y → Type 0) (feeds : List LogEntry → Type 0) (of_head : Bool)
-    (why : Fail) → ((error : Option Error) → is_module (hook_of (made None error)) ≡ true)
+    (why : Fail) → ((error : Option Error) → is_module_response (hook_of (made None error)) ≡ true)
     → ((error : Error) → error_of (made None (Some error)) ≡ Some error)
     → IsSome (head_of old.downstream.reading) → feeds []
     → ((e : LogEntry) (error : Option Error)

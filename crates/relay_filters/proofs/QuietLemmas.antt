@@ -1,5 +1,5 @@
 -- What a side tells of errors, beside what its inner side told of them.
-use Rattle.std.proofs.Common.{◌≡◌, ℕ, Bool, List, drop, length, Option, Some, None, arith, refl, sym, ap, subst, ◌∙◌, inl, inr}
+use Rattle.std.proofs.Common.{◌≡◌, ℕ, Bool, false, List, drop, length, Option, Some, None, arith, refl, sym, ap, subst, true≢false, ◌∙◌, inl, inr}
 use Rattle.relay_tasks.specs.declared.error.Error.{Error}
 use Rattle.relay_tasks.specs.declared.error.ErrorSource.TheVariants.{Downstream}
 use Rattle.relay_tasks.specs.declared.error.Fail.{Fail}
@@ -11,16 +11,18 @@ use Rattle.relay_links.specs.Count.{up}
 use Rattle.relay_links.specs.declared.link.Put.{Put}
 use Rattle.relay_links.specs.declared.link.Put.TheVariants as put
 use Rattle.relay_core.specs.Down.{DownState, GivesPiece, Writes}
-use Rattle.relay_core.specs.Past.{BatchRefused, DownGoes, DownPast}
+use Rattle.relay_core.specs.Past.{BatchRefused, DownGoes, DownPast, error_of_fail}
 use Rattle.relay_core.specs.Told.{failed, paused, written}
 use Rattle.relay_core.specs.declared.piece.Piece.{Piece}
 use Rattle.relay_core.specs.declared.told.Told.{Told}
+use Rattle.relay_sides.specs.Filtered.{stops_for_error}
 use Rattle.relay_sides.specs.declared.client_side.ClientSide.{ClientSide}
 use Rattle.relay_session.specs.declared.session.HttpSession.{HttpSession}
 use Rattle.relay_tasks.specs.declared.log.LogEntry.{LogEntry}
-use Rattle.relay_filters.specs.Hooked.{HookedPast, IsHooked, IsQuiet, state_of_side}
+use Rattle.relay_filters.specs.Hooked.{HadStopped, HookedPast, IsHooked, IsQuiet, state_of_side}
 use Rattle.relay_filters.specs.Segments.{InSegments}
 use Rattle.relay_filters.proofs.LentSide.{Swapped, goes_so, refused_so}
+use Rattle.relay_filters.proofs.SideLemmas.{fail_is}
 
 -- ---- counts
 
@@ -74,6 +76,25 @@ quiet_alone (fail.Error e) st told inner q = record {
   none = λ none. absurd (never_none told.errors none);
   one = λ one. inl ((q.none (first_one told.errors one)).0);
 }
+
+-- a side that had stopped for an error tells of one more: it is not the only one
+pub told_again : (why : Fail) (st : Option Fail) (told told' inner : Told) (e : Error)
+    → told' ≡ failed why told → IsQuiet st told inner → st ≡ Some (fail.Error e)
+    → why ≡ fail.Error e → told'.errors ≡ 1 → ⊥
+told_again fail.OutOfMemory st told told' inner e more q is same one = cc
+told_again (fail.Error x) st told told' inner e more q is same one =
+    let raised : up told.errors ≡ 1 = sym (ap (λ (t : Told). t.errors) more) ∙ one in
+    let before : stops_for_error st ≡ false = (q.none (first_one told.errors raised)).1 in
+    true≢false (sym (ap (λ (o : Option Fail). stops_for_error o) is) ∙ before)
+
+-- so it answers why it had stopped
+pub stopped_before : (why : Fail) (st : Option Fail) (told told' inner : Told) (e : Error)
+    → told' ≡ failed why told → IsQuiet st told inner → st ≡ Some why
+    → error_of_fail why ≡ Some e → HadStopped st told' e
+stopped_before why st told told' inner e more q is says =
+    let same : why ≡ fail.Error e = fail_is why e says in
+    let stopped : st ≡ Some (fail.Error e) = is ∙ ap (λ (f : Fail). Some f) same in
+    (stopped, told_again why st told told' inner e more q stopped same)
 
 -- both sides failed
 pub quiet_failed : (why : Fail) (st : Option Fail) (told inner : Told) → IsQuiet st told inner

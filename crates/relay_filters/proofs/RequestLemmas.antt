@@ -1,5 +1,5 @@
 -- The request by its calls, with one call more behind.
-use Rattle.std.proofs.Common.{◌≡◌, ℕ, Bool, true, false, not, ◌&&◌, ◌||◌, ◌==◌, if◌then◌else◌, List, [], ◌∷◌, ◌++◌, Option, Some, None, is_some, is_none, unwrap_or, option_to_list, length, arith, eqb-true, refl, sym, ap, ◌∙◌, append-nil, append_assoc}
+use Rattle.std.proofs.Common.{◌≡◌, ℕ, ◌≤◌, ◌+◌, Bool, true, false, not, ◌&&◌, ◌||◌, ◌==◌, if◌then◌else◌, List, [], ◌∷◌, ◌++◌, Option, Some, None, is_some, is_none, unwrap_or, option_to_list, length, length-append, arith, eqb-true, refl, sym, ap, ◌∙◌, append-nil, append_assoc, subst}
 use Rattle.std.specs.List.{list_any}
 use Rattle.std.proofs.lemmas.List.Elements.{All-push}
 use Rattle.std.proofs.lemmas.List.Folds.{list_any-append}
@@ -10,9 +10,10 @@ use Rattle.relay_tasks.specs.declared.log.Item.TheVariants as item
 use Rattle.relay_tasks.specs.declared.log.LogEntry.{LogEntry}
 use Rattle.relay_tasks.specs.declared.task.HttpTask.{HttpTask}
 use Rattle.relay_tasks.specs.declared.task.HttpTask.TheVariants as task
-use Rattle.relay_core.specs.Piece.{is_empty, put_of}
+use Rattle.relay_core.specs.Moves.{EndsLast}
+use Rattle.relay_core.specs.Piece.{is_empty, put_of, task_put_of}
 use Rattle.relay_core.specs.declared.piece.Piece.{Piece}
-use Rattle.relay_filters.specs.Request.{PassesRequest, PieceCall, body_of, bytes_in, bytes_of, end_in, ended_by, given_to, is_end_by, is_end_in, is_told_end, passed, passes, has_piece, piece_of, put_in_item, takes_away}
+use Rattle.relay_filters.specs.Request.{PassesRequest, PieceCall, ToldLast, body_of, bytes_in, bytes_of, end_in, ended_by, given_to, is_end_by, is_end_in, is_told_end, passed, passes, has_piece, piece_of, put_in_item, takes_away}
 
 -- ---- lists
 
@@ -82,6 +83,85 @@ bytes_put false piece =
     (task.Body piece.bytes piece.upstream_end) (unwrap_or piece.bytes []) refl
     (none_there piece.bytes piece.upstream_end)
 
+-- ---- how many calls
+
+-- no more than came
+few_still : (came came' : List HttpTask) (es : List LogEntry) → came' ≡ came
+    → length es ≤ length came → length es ≤ length came'
+few_still came came' es is few = rw is few
+
+-- a task that there is is one
+one_there : (o : Option HttpTask) → is_some o ≡ true → length (option_to_list o) ≡ 1
+one_there None some = cc
+one_there (Some task) some = refl
+
+-- one call more, with a piece that puts a task
+few_push : (u : Bool) (piece : Piece) (came came' : List HttpTask) (es : List LogEntry)
+    (e : LogEntry) → came' ≡ came ++ put_of u piece → is_some (task_put_of u piece) ≡ true
+    → length es ≤ length came → length (es ++ e ∷ []) ≤ length came'
+few_push u piece came came' es e is puts few =
+    let one : length (put_of u piece) ≡ 1 = one_there (task_put_of u piece) puts in
+    let more : length came' ≡ length came + length (put_of u piece) =
+    ap (λ (l : List HttpTask). length l) is ∙ length-append came (put_of u piece) in
+    let longer : length (es ++ e ∷ []) ≡ length es + 1 = length-append es (e ∷ []) in
+    omega (arith, few, one, more, longer)
+
+-- a piece more, and no call
+few_more : (came came' more : List HttpTask) (es : List LogEntry) → came' ≡ came ++ more
+    → length es ≤ length came → length es ≤ length came'
+few_more came came' more es is few =
+    let longer : length came' ≡ length came + length more =
+    ap (λ (l : List HttpTask). length l) is ∙ length-append came more in
+    omega (arith, few, longer)
+
+-- ---- the end of what came
+
+-- an end is the last of tasks with one more, where none of those before was one
+pub ends_one : (xs : List HttpTask) (o : Option HttpTask) → (list_any is_end xs ≡ true → ⊥)
+    → EndsLast (xs ++ option_to_list o)
+ends_one xs o none [] behind is ends = absurd (cc)
+ends_one [] None none (f ∷ fs) behind is ends = absurd (cc)
+ends_one [] (Some t) none (f ∷ fs) behind is ends = none_behind fs behind (one_tail is)
+  where
+    one_tail : t ∷ [] ≡ f ∷ (fs ++ behind) → fs ++ behind ≡ []
+    one_tail same = cc
+
+    none_behind : (fs behind : List HttpTask) → fs ++ behind ≡ [] → behind ≡ []
+    none_behind [] behind same = same
+    none_behind (y ∷ ys) behind same = absurd (cc)
+ends_one (x ∷ xs) o none (f ∷ fs) behind is ends =
+    ends_one xs o
+    (λ more. none (behind_it (is_end x) (list_any is_end xs) more)) fs behind (same_tail is)
+    (not_first (is_end f) (list_any is_end fs)
+    (λ first. none (in_front (is_end x) (list_any is_end xs)
+    (ap is_end (same_first is) ∙ first))) ends)
+  where
+    same_first : x ∷ (xs ++ option_to_list o) ≡ f ∷ (fs ++ behind) → x ≡ f
+    same_first same = cc
+
+    same_tail : x ∷ (xs ++ option_to_list o) ≡ f ∷ (fs ++ behind)
+        → xs ++ option_to_list o ≡ fs ++ behind
+    same_tail same = cc
+
+    in_front : (a b : Bool) → a ≡ true → (a || b) ≡ true
+    in_front true b is = refl
+    in_front false b is = absurd (cc)
+
+    behind_it : (a b : Bool) → b ≡ true → (a || b) ≡ true
+    behind_it true b is = refl
+    behind_it false b is = is
+
+    not_first : (a b : Bool) → (a ≡ true → ⊥) → (a || b) ≡ true → b ≡ true
+    not_first true b isnt either = absurd (isnt refl)
+    not_first false b isnt either = either
+
+-- so it is of what came with one piece more
+ends_push : (u : Bool) (piece : Piece) (came came' : List HttpTask)
+    → came' ≡ came ++ put_of u piece → (list_any is_end came ≡ true → ⊥) → EndsLast came'
+ends_push u piece came came' is first =
+    subst (λ (l : List HttpTask). EndsLast l) (sym is)
+    (ends_one came (task_put_of u piece) first)
+
 -- ---- the request
 
 -- what came of the request is the same
@@ -91,10 +171,14 @@ pub same_request : (a ended : Bool) (es : List LogEntry) (on : Type 0)
 same_request a ended es on came came' put put' is is' r =
     record {
       each = r.each;
+      few = few_still came came' es is r.few;
+      ends_last = subst (λ (l : List HttpTask). EndsLast l) (sym is) r.ends_last;
       rest = r.rest;
       read = ap body_of is ∙ r.read;
       all = r.all;
       told = λ t. ap (list_any is_end) is ∙ r.told t;
+      told_last = r.told_last;
+      told_whole = r.told_whole;
       left = is' ∙ r.left;
       is_ended = r.is_ended;
     }
@@ -144,6 +228,20 @@ told_push es e came came' more bytes end is told ends was so =
     by_last true was_told so = end_stays came came' more is (told was_told)
     by_last false none so = ends (sym (ap end_in was) ∙ only (is_told_end e) so)
 
+-- one of two
+or_last : (a b : Bool) → b ≡ true → (a || b) ≡ true
+or_last true b is = refl
+or_last false b is = is
+
+-- a call behind calls that were told no end
+last_push : (es : List LogEntry) (e : LogEntry) → (list_any is_told_end es ≡ true → ⊥)
+    → ToldLast (es ++ e ∷ [])
+last_push [] e none = (λ t. refl, tt)
+last_push (x ∷ es) e none = (
+  λ t. absurd (none (or_first (is_told_end x) (list_any is_told_end es) t)),
+  last_push es e (λ t. none (or_last (is_told_end x) (list_any is_told_end es) t)),
+)
+
 -- what was left of a piece ends the request by the call that left it
 ends_of : (error : Option Error) (input output : Item) (bytes left : Option (List ℕ)) (end : Bool)
     → error ≡ None → input ≡ item.Piece bytes end → output ≡ item.Piece left end
@@ -167,6 +265,7 @@ fails_no_end e bad = by_error e.error (is_end_in (has_piece e.input) e.output) b
 pub one_piece : (a ended end client_end u : Bool) (es : List LogEntry) (on : Type 0)
     (came came' put put' : List HttpTask) (piece : Piece) (left : Option (List ℕ)) (e : LogEntry)
     → on → PassesRequest a ended es on came put → PieceCall e → came' ≡ came ++ put_of u piece
+    → is_some (task_put_of u piece) ≡ true → (list_any is_end came ≡ true → ⊥)
     → (end ≡ true → list_any is_end came' ≡ true)
     → put' ≡ put ++ put_of false (piece_of ended end client_end (is_some piece.bytes) left)
     → e.input ≡ item.Piece piece.bytes end → e.output ≡ item.Piece left end → e.error ≡ None
@@ -174,14 +273,18 @@ pub one_piece : (a ended end client_end u : Bool) (es : List LogEntry) (on : Typ
     (ended || (piece_of ended end client_end (is_some piece.bytes) left).upstream_end)
     (es ++ e ∷ []) on
     came' put'
-one_piece a ended end client_end u es on came came' put put' piece left e is_on r call is ends is'
-    was became ok =
+one_piece a ended end client_end u es on came came' put put' piece left e is_on r call is puts first
+    ends is' was became ok =
     record {
       each = All-push PieceCall es e r.each call;
+      few = few_push u piece came came' es e is puts r.few;
+      ends_last = ends_push u piece came came' is first;
       rest = [];
       read = read_on u piece end came came' es e r.rest r.read (r.all is_on) is was;
       all = λ so. refl;
       told = told_push es e came came' (put_of u piece) piece.bytes end is r.told ends was;
+      told_last = last_push es e (λ t. first (r.told t));
+      told_whole = λ t. refl;
       left = is' ∙ ap (λ (xs : List HttpTask).
           xs ++ put_of false (piece_of ended end client_end (is_some piece.bytes) left))
           r.left
@@ -217,16 +320,21 @@ one_piece a ended end client_end u es on came came' put put' piece left e is_on 
 pub one_refused : (a ended end u : Bool) (es : List LogEntry) (on on' : Type 0)
     (came came' put put' : List HttpTask) (piece : Piece) (e : LogEntry)
     → on → PassesRequest a ended es on came put → PieceCall e → came' ≡ came ++ put_of u piece
+    → is_some (task_put_of u piece) ≡ true → (list_any is_end came ≡ true → ⊥)
     → (end ≡ true → list_any is_end came' ≡ true) → put' ≡ put
     → e.input ≡ item.Piece piece.bytes end → is_some e.error ≡ true
     → PassesRequest a ended (es ++ e ∷ []) on' came' put'
-one_refused a ended end u es on on' came came' put put' piece e is_on r call is ends is'
+one_refused a ended end u es on on' came came' put put' piece e is_on r call is puts first ends is'
     was bad = record {
       each = All-push PieceCall es e r.each call;
+      few = few_push u piece came came' es e is puts r.few;
+      ends_last = ends_push u piece came came' is first;
       rest = [];
       read = read_on u piece end came came' es e r.rest r.read (r.all is_on) is was;
       all = λ so. refl;
       told = told_push es e came came' (put_of u piece) piece.bytes end is r.told ends was;
+      told_last = last_push es e (λ t. first (r.told t));
+      told_whole = λ t. refl;
       left = is' ∙ r.left ∙ sym (append-nil (passed a es))
           ∙ ap (λ (xs : List HttpTask). passed a es ++ xs) (sym (none_passes (ended_by a es)))
           ∙ sym (passed_push a es e);
@@ -245,16 +353,20 @@ one_refused a ended end u es on on' came came' put put' piece e is_on r call is 
 -- memory was wanted for a piece
 pub one_lost : (a ended u : Bool) (es : List LogEntry) (on on' : Type 0)
     (came came' put put' : List HttpTask) (piece : Piece) → (on' → ⊥)
-    → PassesRequest a ended es on came put → came' ≡ came ++ put_of u piece → put' ≡ put
-    → PassesRequest a ended es on' came' put'
-one_lost a ended u es on on' came came' put put' piece off r is is' = record {
+    → PassesRequest a ended es on came put → came' ≡ came ++ put_of u piece
+    → (list_any is_end came ≡ true → ⊥) → put' ≡ put → PassesRequest a ended es on' came' put'
+one_lost a ended u es on on' came came' put put' piece off r is first is' = record {
   each = r.each;
+  few = few_more came came' (put_of u piece) es is r.few;
+  ends_last = ends_push u piece came came' is first;
   rest = r.rest ++ body_of (put_of u piece);
   read = ap body_of is ∙ body_append came (put_of u piece)
       ∙ ap (λ (b : List ℕ). b ++ body_of (put_of u piece)) r.read
       ∙ append_assoc (given_to es) r.rest (body_of (put_of u piece));
   all = λ so. absurd (off so);
   told = λ t. end_stays came came' (put_of u piece) is (r.told t);
+  told_last = r.told_last;
+  told_whole = λ t. absurd (first (r.told t));
   left = is' ∙ r.left;
   is_ended = r.is_ended;
 }

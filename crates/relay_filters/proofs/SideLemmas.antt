@@ -1,6 +1,7 @@
 -- A side behind filters: how each answer of the inner side goes on, with the calls that it led to.
-use Rattle.std.proofs.Common.{◌≡◌, ℕ, ◌<◌, Bool, true, false, ◌||◌, ◌&&◌, List, [], ◌∷◌, ◌++◌, length, Option, Some, None, is_some, Ok, Err, arith, length-append, refl, sym, ap, subst, ◌∙◌, append-nil, append_assoc, inl, inr, true≢false, IsTrue, IsSome, option_map, unwrap_or}
+use Rattle.std.proofs.Common.{◌≡◌, ℕ, ◌<◌, ◌⊎◌, Bool, true, false, ◌||◌, ◌&&◌, List, [], ◌∷◌, ◌++◌, drop, length, Option, Some, None, is_some, Ok, Err, arith, length-append, refl, sym, ap, subst, ◌∙◌, append-nil, append_assoc, inl, inr, true≢false, IsTrue, IsSome, option_map, unwrap_or}
 use Rattle.std.specs.List.{list_any}
+use Rattle.std.proofs.Math.Seq.{drop-append_seam}
 use Rattle.std.proofs.lemmas.List.Elements.{All-nil}
 use Rattle.relay_tasks.specs.declared.error.Error.{Error}
 use Rattle.relay_tasks.specs.declared.error.Fail.{Fail}
@@ -16,8 +17,9 @@ use Rattle.relay_session.specs.Reading.{head_of}
 use Rattle.relay_session.specs.declared.session.HttpSession.{HttpSession}
 use Rattle.relay_core.specs.Past.{BatchRefused, DownGoes, DownPast, error_of_fail}
 use Rattle.relay_core.specs.Pipe.{is_failure}
-use Rattle.relay_core.specs.Piece.{put_of}
+use Rattle.relay_core.specs.Piece.{put_of, task_put_of}
 use Rattle.relay_core.specs.declared.piece.Piece.{Piece}
+use Rattle.relay_core.specs.declared.told.Told.{Told}
 use Rattle.relay_modules.specs.declared.seen.Seen.{Seen}
 use Rattle.relay_hooks.specs.Call.{Left, entry, failed, only}
 use Rattle.relay_hooks.specs.Session.{moment}
@@ -31,9 +33,9 @@ use Rattle.relay_filters.specs.Chain.{AllPass, PassedModules, PassesModules, Ref
 use Rattle.relay_filters.specs.Request.{Filtered, Filters, PassesRequest, PieceCall, is_last, piece_of}
 use Rattle.relay_filters.specs.Response as batches
 use Rattle.relay_filters.specs.Response.{BatchPasses, BatchStops, MakesOf, Outcome, PartsOf, Stage, WasMade}
-use Rattle.relay_filters.specs.Hooked.{BlamesOver, IsHooked, RefusesOver, TakesOn, by_filter, by_inner, failure_in_front, had_stopped, inside, refused_at_once}
+use Rattle.relay_filters.specs.Hooked.{BlamesInside, BlamesOver, IsHooked, RefusesOver, TakesOn, by_filter, by_inner, failure_in_front, had_stopped, inside, refused_at_once}
 use Rattle.relay_filters.proofs.ChainLemmas.{all_append, all_split, parts_append, refuses_behind}
-use Rattle.relay_filters.proofs.RequestLemmas.{one_lost, one_piece, one_refused, same_request}
+use Rattle.relay_filters.proofs.RequestLemmas.{ends_one, one_lost, one_piece, one_refused, same_request}
 
 -- ---- answers
 
@@ -335,7 +337,7 @@ stands_on inner inner' method c called log oh a ended ended' u u' rf stood st p 
     }
 
 -- the inner side went on
-pub goes_on : (inner inner' : DownPast → Type 0) (blames' : DownPast → Error → Type 0)
+pub goes_on : (inner inner' : DownPast → Type 0) (blames' : DownPast → Error → Type 0) (by : Error → Type 0)
     (method : List ℕ) (c : HttpSession) (called log : List LogEntry)
     (oh a ended ended' u u' rf stood : Bool) (st : Option Fail) (p : DownPast)
     (put_in put batched_in batched closing : List HttpTask) (error : Option Error)
@@ -344,8 +346,8 @@ pub goes_on : (inner inner' : DownPast → Type 0) (blames' : DownPast → Error
     → put_in ≡ h.came → put ≡ p.put → batched_in ≡ h.queued → batched ≡ p.batched
     → DownGoes inner' blames' put_in batched_in closing error
     → DownGoes (IsHooked inner' method c called log oh a ended' u' rf stood st)
-    (λ past e. BlamesOver inner' blames' st past e) put batched closing error
-goes_on inner inner' blames' method c called log oh a ended ended' u u' rf stood st p put_in put
+    (λ past e. BlamesInside inner' blames' past e ⊎ by e) put batched closing error
+goes_on inner inner' blames' by method c called log oh a ended ended' u u' rf stood st p put_in put
     batched_in batched closing error h plain is same is' same' g = record {
       past = record g.past { put = put; batched = batched };
       stands =
@@ -359,6 +361,18 @@ goes_on inner inner' blames' method c called log oh a ended ended' u u' rf stood
     }
 
 -- ---- a piece
+
+-- a piece comes behind these tasks: it puts one, which is an end where it is the last; and no end
+-- came before
+pub record Comes (u : Bool) (piece : Piece) (came : List HttpTask) : Type 0 where
+  pub puts : is_some (task_put_of u piece) ≡ true
+  pub first : list_any is_end came ≡ true → ⊥
+  pub ends : is_last piece ≡ true → list_any is_end (came ++ put_of u piece) ≡ true
+
+-- the side's own calls are those behind those that stood in the log
+own_behind : (called own log : List LogEntry) → log ≡ called ++ own
+    → drop (length called) log ≡ own
+own_behind called own log parts = rw parts (drop-append_seam called own)
 
 -- what no call of a piece fails to say: the log and the head behind it
 module _ (inner : DownPast → Type 0) (app : Standing → LogEntry → Type 0) (method : List ℕ)
@@ -395,22 +409,22 @@ module _ (inner : DownPast → Type 0) (app : Standing → LogEntry → Type 0) 
     requests_on = requests_in-append h.own (entered ∷ [])
 
 -- a piece was read and filtered
-reads_open : (inner inner' : DownPast → Type 0) (blames' : DownPast → Error → Type 0)
+reads_open : (inner inner' : DownPast → Type 0) (blames' : DownPast → Error → Type 0) (by : Error → Type 0)
     (app : Standing → LogEntry → Type 0) (method : List ℕ) (seen : Seen) (mark : ℕ)
     (called : List LogEntry) (oh a ended u u' rf stood : Bool) (p : DownPast)
     (piece made : Piece) (seen' : Seen) (mark' : ℕ)
     (h : IsHooked inner method seen.downstream called seen.log oh a ended u rf stood None p)
     → u' ≡ u
-    → (is_last piece ≡ true → list_any is_end (h.came ++ put_of u piece) ≡ true)
+    → Comes u piece h.came
     → Filtered app ended piece made seen mark seen' mark'
     → DownGoes inner' blames' (h.came ++ put_of u piece) h.queued p.closing None
     → DownGoes (IsHooked inner' method seen'.downstream called seen'.log oh a
     (ended || made.upstream_end) u' rf stood None)
-    (λ past e. BlamesOver inner' blames' None past e) (p.put ++ put_of u made) p.batched p.closing
+    (λ past e. BlamesInside inner' blames' past e ⊎ by e) (p.put ++ put_of u made) p.batched p.closing
     None
-reads_open inner inner' blames' app method seen mark called oh a ended u u' rf stood p piece
+reads_open inner inner' blames' by app method seen mark called oh a ended u u' rf stood p piece
     made seen' mark' h
-    up ends f g =
+    up comes f g =
     let end = is_last piece in
     let left = f.left in
     let e = entered inner app method seen mark called oh a ended u rf stood p h piece.bytes
@@ -420,7 +434,7 @@ reads_open inner inner' blames' app method seen mark called oh a ended u u' rf s
     subst (λ (m : Piece). DownGoes
     (IsHooked inner' method seen'.downstream called seen'.log oh a
     (ended || m.upstream_end) u' rf stood None)
-    (λ past e. BlamesOver inner' blames' None past e) (p.put ++ put_of u m) p.batched p.closing
+    (λ past e. BlamesInside inner' blames' past e ⊎ by e) (p.put ++ put_of u m) p.batched p.closing
     None) (sym f.is_made)
     (record {
       past = record g.past { put = p.put ++ put_of u one; batched = p.batched };
@@ -448,8 +462,8 @@ reads_open inner inner' blames' app method seen mark called oh a ended u u' rf s
               is_hook = refl;
               was = refl;
               became = refl;
-            }) g.is_put
-            (λ is. ap (list_any is_end) g.is_put ∙ ends is)
+            }) g.is_put comes.puts comes.first
+            (λ is. ap (list_any is_end) g.is_put ∙ comes.ends is)
             (ap (λ (b : Bool). p.put ++ put_of b one) low) refl refl refl);
         is_of_head = h.is_of_head;
         response =
@@ -470,23 +484,24 @@ reads_open inner inner' blames' app method seen mark called oh a ended u u' rf s
     })
 
 -- the filter refused a piece, or memory was wanted
-stops_open : (inner inner' : DownPast → Type 0) (blames' : DownPast → Error → Type 0)
+stops_open : (inner inner' : DownPast → Type 0) (blames' : DownPast → Error → Type 0) (told' : Told)
     (app : Standing → LogEntry → Type 0) (method : List ℕ) (seen : Seen) (mark : ℕ)
     (called : List LogEntry) (oh a ended u u' rf stood : Bool) (p : DownPast) (piece : Piece)
     (why : Fail) (put : List HttpTask)
     (seen' : Seen) (mark' : ℕ)
     (h : IsHooked inner method seen.downstream called seen.log oh a ended u rf stood None p)
     → u' ≡ u → put ≡ p.put
-    → (is_last piece ≡ true → list_any is_end (h.came ++ put_of u piece) ≡ true)
+    → Comes u piece h.came
     → Filters app ended piece (Err why) seen mark seen' mark'
     → DownGoes inner' blames' (h.came ++ put_of u piece) h.queued p.closing None
     → DownGoes (IsHooked inner' method seen'.downstream called seen'.log oh a ended u' rf
     stood (Some why))
-    (λ past e. BlamesOver inner' blames' (Some why) past e) put p.batched p.closing
+    (λ past e. BlamesOver inner' blames' (Some why) told'
+    (drop (length called) seen'.log) past e) put p.batched p.closing
     (error_of_fail why)
-stops_open inner inner' blames' app method seen mark called oh a ended u u' rf stood p piece
+stops_open inner inner' blames' told' app method seen mark called oh a ended u u' rf stood p piece
     fail.OutOfMemory
-    put seen' mark' h up same ends f g = record {
+    put seen' mark' h up same comes f g = record {
       past = record g.past { put = put; batched = p.batched };
       stands = record {
         came = g.past.put;
@@ -497,7 +512,7 @@ stops_open inner inner' blames' app method seen mark called oh a ended u u' rf s
         request = λ plain.
             one_lost a ended u (requests_in h.own) Going (Some fail.OutOfMemory ≡ None)
             h.came g.past.put p.put put piece (λ so. some_none fail.OutOfMemory so)
-            (h.request (sym up ∙ plain)) g.is_put same;
+            (h.request (sym up ∙ plain)) g.is_put comes.first same;
         is_of_head = h.is_of_head;
         response =
             same_response oh stood h.own (TakesOn (Some fail.OutOfMemory) rf) p.batched p.batched
@@ -512,8 +527,8 @@ stops_open inner inner' blames' app method seen mark called oh a ended u u' rf s
       is_closing = g.is_closing;
       blamed = λ e isnt. cc;
     }
-stops_open inner inner' blames' app method seen mark called oh a ended u u' rf stood p piece
-    (fail.Error error) put seen' mark' h up same ends f g =
+stops_open inner inner' blames' told' app method seen mark called oh a ended u u' rf stood p piece
+    (fail.Error error) put seen' mark' h up same comes f g =
     let end = is_last piece in
     let left = failed (item.Piece f.left end) error in
     let e = entered inner app method seen mark called oh a ended u rf stood p h piece.bytes
@@ -545,7 +560,7 @@ stops_open inner inner' blames' app method seen mark called oh a ended u u' rf s
               is_hook = refl;
               was = refl;
               became = refl;
-            }) g.is_put (λ is. ap (list_any is_end) g.is_put ∙ ends is) same refl refl);
+            }) g.is_put comes.puts comes.first (λ is. ap (list_any is_end) g.is_put ∙ comes.ends is) same refl refl);
         is_of_head = h.is_of_head;
         response =
             same_response oh stood (h.own ++ e ∷ []) (TakesOn (Some (fail.Error error)) rf)
@@ -559,7 +574,25 @@ stops_open inner inner' blames' app method seen mark called oh a ended u u' rf s
       is_put = refl;
       is_batched = refl;
       is_closing = g.is_closing;
-      blamed = λ x told. inr (ap Some (fail_is (fail.Error error) x told));
+      blamed = λ x told. inr (inl (
+        ap Some (fail_is (fail.Error error) x told),
+        record {
+          before = h.own;
+          call = e;
+          are = own_behind called (h.own ++ e ∷ []) seen'.log
+              (parts_on inner app method seen mark called oh a ended u rf stood p h piece.bytes end
+              seen' mark' left f.call);
+          is_piece = record {
+            given = piece.bytes;
+            left = f.left;
+            end = end;
+            is_hook = refl;
+            was = refl;
+            became = refl;
+          };
+          answers = told;
+        },
+      ));
     }
   where
     error_in : {x : Error} → Some (fail.Error error) ≡ Some (fail.Error x) → Some error ≡ Some x
@@ -568,32 +601,32 @@ stops_open inner inner' blames' app method seen mark called oh a ended u u' rf s
 -- ---- a side that has not stopped
 
 -- a piece was read and filtered
-pub reads_piece : (inner inner' : DownPast → Type 0) (blames' : DownPast → Error → Type 0)
+pub reads_piece : (inner inner' : DownPast → Type 0) (blames' : DownPast → Error → Type 0) (by : Error → Type 0)
     (app : Standing → LogEntry → Type 0) (method : List ℕ) (seen : Seen) (mark : ℕ)
     (called : List LogEntry) (oh a ended u u' rf stood : Bool) (st : Option Fail)
     (p : DownPast) (piece made : Piece)
     (seen' : Seen) (mark' : ℕ) → st ≡ None
     → (h : IsHooked inner method seen.downstream called seen.log oh a ended u rf stood st p)
     → u' ≡ u
-    → (is_last piece ≡ true → list_any is_end (h.came ++ put_of u piece) ≡ true)
+    → Comes u piece h.came
     → Filtered app ended piece made seen mark seen' mark'
     → DownGoes inner' blames' (h.came ++ put_of u piece) h.queued p.closing None
     → DownGoes (IsHooked inner' method seen'.downstream called seen'.log oh a
     (ended || made.upstream_end) u' rf stood st)
-    (λ past e. BlamesOver inner' blames' st past e) (p.put ++ put_of u made) p.batched p.closing
+    (λ past e. BlamesInside inner' blames' past e ⊎ by e) (p.put ++ put_of u made) p.batched p.closing
     None
-reads_piece inner inner' blames' app method seen mark called oh a ended u u' rf stood
+reads_piece inner inner' blames' by app method seen mark called oh a ended u u' rf stood
     (Some why) p piece made
     seen' mark' on h = some_none why on
-reads_piece inner inner' blames' app method seen mark called oh a ended u u' rf stood None p
+reads_piece inner inner' blames' by app method seen mark called oh a ended u u' rf stood None p
     piece made seen'
     mark' on h =
-    reads_open inner inner' blames' app method seen mark called oh a ended u u' rf stood p
+    reads_open inner inner' blames' by app method seen mark called oh a ended u u' rf stood p
     piece made seen'
     mark' h
 
 -- the filter refused a piece, or memory was wanted
-pub stops_at : (inner inner' : DownPast → Type 0) (blames' : DownPast → Error → Type 0)
+pub stops_at : (inner inner' : DownPast → Type 0) (blames' : DownPast → Error → Type 0) (told' : Told)
     (app : Standing → LogEntry → Type 0) (method : List ℕ) (seen : Seen) (mark : ℕ)
     (called : List LogEntry) (oh a ended u u' rf stood : Bool) (st : Option Fail)
     (p : DownPast) (piece : Piece) (why : Fail)
@@ -601,20 +634,21 @@ pub stops_at : (inner inner' : DownPast → Type 0) (blames' : DownPast → Erro
     → (h : IsHooked inner method seen.downstream called seen.log oh a ended u rf stood st p)
     → u' ≡ u
     → put ≡ p.put
-    → (is_last piece ≡ true → list_any is_end (h.came ++ put_of u piece) ≡ true)
+    → Comes u piece h.came
     → Filters app ended piece (Err why) seen mark seen' mark'
     → DownGoes inner' blames' (h.came ++ put_of u piece) h.queued p.closing None
     → DownGoes (IsHooked inner' method seen'.downstream called seen'.log oh a ended u' rf
     stood (Some why))
-    (λ past e. BlamesOver inner' blames' (Some why) past e) put p.batched p.closing
+    (λ past e. BlamesOver inner' blames' (Some why) told'
+    (drop (length called) seen'.log) past e) put p.batched p.closing
     (error_of_fail why)
-stops_at inner inner' blames' app method seen mark called oh a ended u u' rf stood
+stops_at inner inner' blames' told' app method seen mark called oh a ended u u' rf stood
     (Some before) p piece why put
     seen' mark' on h = some_none before on
-stops_at inner inner' blames' app method seen mark called oh a ended u u' rf stood None p
+stops_at inner inner' blames' told' app method seen mark called oh a ended u u' rf stood None p
     piece why put seen'
     mark' on h =
-    stops_open inner inner' blames' app method seen mark called oh a ended u u' rf stood p
+    stops_open inner inner' blames' told' app method seen mark called oh a ended u u' rf stood p
     piece why put seen'
     mark' h
 
@@ -636,16 +670,20 @@ request_same a ended own own' on on' came came' put put' is off same same' r =
     (same_request a ended (requests_in own) on' came came' put put' same same'
     (record {
       each = r.each;
+      few = r.few;
+      ends_last = r.ends_last;
       rest = r.rest;
       read = r.read;
       all = λ o. r.all (off o);
       told = r.told;
+      told_last = r.told_last;
+      told_whole = r.told_whole;
       left = r.left;
       is_ended = r.is_ended;
     }))
 
 -- a batch passed, and the inner side queued it
-batch_open : (inner inner' : DownPast → Type 0) (blames' : DownPast → Error → Type 0)
+batch_open : (inner inner' : DownPast → Type 0) (blames' : DownPast → Error → Type 0) (by : Error → Type 0)
     (allows : Standing → LogEntry → Type 0) (method : List ℕ) (seen : Seen) (mark : ℕ)
     (called : List LogEntry) (oh a ended ended' u u' stood stand : Bool) (p : DownPast)
     (tasks made : List HttpTask)
@@ -658,8 +696,8 @@ batch_open : (inner inner' : DownPast → Type 0) (blames' : DownPast → Error 
     → DownGoes inner' blames' h.came (h.queued ++ made) p.closing None
     → DownGoes (IsHooked inner' method seen'.downstream called seen'.log oh a ended' u' false
     (stood && stand) None)
-    (λ past e. BlamesOver inner' blames' None past e) p.put (p.batched ++ tasks) p.closing None
-batch_open inner inner' blames' allows method seen mark called oh a ended ended' u u' stood stand p
+    (λ past e. BlamesInside inner' blames' past e ⊎ by e) p.put (p.batched ++ tasks) p.closing None
+batch_open inner inner' blames' by allows method seen mark called oh a ended ended' u u' stood stand p
     tasks made seen' mark' h plain (es, adds, b) g =
     let parts = batch_parts oh stand tasks es made b in
     record {
@@ -694,7 +732,7 @@ batch_open inner inner' blames' allows method seen mark called oh a ended ended'
 
 -- a batch was refused by a filter, or memory was wanted: nothing of it is queued
 stops_batch : (inner inner' : DownPast → Type 0)
-    (refuses : DownPast → List HttpTask → Error → Type 0)
+    (refuses : DownPast → List HttpTask → Error → Type 0) (told' : Told)
     (allows : Standing → LogEntry → Type 0) (method : List ℕ) (seen : Seen) (mark : ℕ)
     (called : List LogEntry) (oh a ended u stood stand : Bool) (p : DownPast)
     (tasks : List HttpTask) (why : Fail)
@@ -706,9 +744,9 @@ stops_batch : (inner inner' : DownPast → Type 0)
     → BatchRefused
     (IsHooked inner' method seen'.downstream called seen'.log oh a ended u false stood
     (Some why)) (λ past left e.
-    RefusesOver inner' refuses oh stood stand false (Some why) called seen'.log past left e)
+    RefusesOver inner' refuses oh stood stand false (Some why) told' called seen'.log past left e)
     p tasks why
-stops_batch inner inner' refuses allows method seen mark called oh a ended u stood stand p tasks
+stops_batch inner inner' refuses told' allows method seen mark called oh a ended u stood stand p tasks
     (fail.Error error) seen' mark' so_inside h (es, adds, fed, refused) =
     let parts = stop_parts oh stand tasks es fed in
     record {
@@ -740,7 +778,8 @@ stops_batch inner inner' refuses allows method seen mark called oh a ended u sto
       is_batched = sym (append-nil p.batched);
       is_closing = refl;
       refused = λ x no_failure is.
-          by_filter seen.log es adds.log fed
+          by_filter h.own es
+          (parts_behind called h.own es seen.log seen'.log h.parts adds.log) fed
           (subst (λ (y : Error). Refuses oh y es) (error_is is) refused)
           (ap (λ (f : Fail). Some f) is);
     }
@@ -750,7 +789,7 @@ stops_batch inner inner' refuses allows method seen mark called oh a ended u sto
 
     error_is : {x : Error} → fail.Error error ≡ fail.Error x → error ≡ x
     error_is is = cc
-stops_batch inner inner' refuses allows method seen mark called oh a ended u stood stand p tasks
+stops_batch inner inner' refuses told' allows method seen mark called oh a ended u stood stand p tasks
     fail.OutOfMemory seen' mark' so_inside h (es, adds, fed) =
     let parts = stop_parts oh stand tasks es fed in
     record {
@@ -784,7 +823,7 @@ stops_batch inner inner' refuses allows method seen mark called oh a ended u sto
 
 -- a batch passed, and the inner side refused it
 refused_open : (inner inner' : DownPast → Type 0)
-    (refuses' : DownPast → List HttpTask → Error → Type 0)
+    (refuses' : DownPast → List HttpTask → Error → Type 0) (told' : Told)
     (allows : Standing → LogEntry → Type 0) (method : List ℕ) (seen : Seen) (mark : ℕ)
     (called : List LogEntry) (oh a ended u u' stood stand : Bool) (p : DownPast)
     (tasks made : List HttpTask) (why : Fail)
@@ -799,9 +838,9 @@ refused_open : (inner inner' : DownPast → Type 0)
     → BatchRefused (IsHooked inner' method seen'.downstream called seen'.log oh a ended u' true
     (stood && stand) None)
     (λ past left e.
-    RefusesOver inner' refuses' oh (stood && stand) stand true None called seen'.log past left e)
+    RefusesOver inner' refuses' oh (stood && stand) stand true None told' called seen'.log past left e)
     p tasks why
-refused_open inner inner' refuses' allows method seen mark called oh a ended u u' stood stand p
+refused_open inner inner' refuses' told' allows method seen mark called oh a ended u u' stood stand p
     tasks
     made why seen' mark' h plain same (es, adds, b) g =
     let parts = batch_parts oh stand tasks es made b in
@@ -844,7 +883,7 @@ refused_open inner inner' refuses' allows method seen mark called oh a ended u u
     not_taken is = cc
 
 -- a side that takes on, by its flags
-pub batch_goes : (inner inner' : DownPast → Type 0) (blames' : DownPast → Error → Type 0)
+pub batch_goes : (inner inner' : DownPast → Type 0) (blames' : DownPast → Error → Type 0) (by : Error → Type 0)
     (allows : Standing → LogEntry → Type 0) (method : List ℕ) (seen : Seen) (mark : ℕ)
     (called : List LogEntry) (oh a ended ended' u u' rf stood stand : Bool) (st : Option Fail)
     (has : Bool) (p : DownPast)
@@ -857,19 +896,19 @@ pub batch_goes : (inner inner' : DownPast → Type 0) (blames' : DownPast → Er
     → DownGoes inner' blames' h.came (h.queued ++ made) p.closing None
     → DownGoes
     (IsHooked inner' method seen'.downstream called seen'.log oh a ended' u' rf (stood && stand)
-    st) (λ past e. BlamesOver inner' blames' st past e) p.put (p.batched ++ tasks) p.closing None
-batch_goes inner inner' blames' allows method seen mark called oh a ended ended' u u' rf stood stand
+    st) (λ past e. BlamesInside inner' blames' past e ⊎ by e) p.put (p.batched ++ tasks) p.closing None
+batch_goes inner inner' blames' by allows method seen mark called oh a ended ended' u u' rf stood stand
     (Some why) has p tasks made seen' mark' on h = some_none _ on
-batch_goes inner inner' blames' allows method seen mark called oh a ended ended' u u' true stood
+batch_goes inner inner' blames' by allows method seen mark called oh a ended ended' u u' true stood
     stand None has p tasks made seen' mark' on h = some_none _ on
-batch_goes inner inner' blames' allows method seen mark called oh a ended ended' u u' false stood
+batch_goes inner inner' blames' by allows method seen mark called oh a ended ended' u u' false stood
     stand None has p tasks made seen' mark' on h =
-    batch_open inner inner' blames' allows method seen mark called oh a ended ended' u u' stood
+    batch_open inner inner' blames' by allows method seen mark called oh a ended ended' u u' stood
     stand
     p tasks made seen' mark' h
 
 pub batch_stops : (inner inner' : DownPast → Type 0)
-    (refuses : DownPast → List HttpTask → Error → Type 0)
+    (refuses : DownPast → List HttpTask → Error → Type 0) (told' : Told)
     (allows : Standing → LogEntry → Type 0) (method : List ℕ) (seen : Seen) (mark : ℕ)
     (called : List LogEntry) (oh a ended u rf stood stand : Bool) (st : Option Fail) (has : Bool)
     (p : DownPast)
@@ -880,19 +919,19 @@ pub batch_stops : (inner inner' : DownPast → Type 0)
     (BatchStops oh stand tasks) (Refuses oh) (Err why) seen mark seen' mark'
     → BatchRefused (IsHooked inner' method seen'.downstream called seen'.log oh a ended u rf stood
     (Some why)) (λ past left e.
-    RefusesOver inner' refuses oh stood stand rf (Some why) called seen'.log past left e)
+    RefusesOver inner' refuses oh stood stand rf (Some why) told' called seen'.log past left e)
     p tasks why
-batch_stops inner inner' refuses allows method seen mark called oh a ended u rf stood stand
+batch_stops inner inner' refuses told' allows method seen mark called oh a ended u rf stood stand
     (Some before) has p tasks why seen' mark' on so_inside h = some_none _ on
-batch_stops inner inner' refuses allows method seen mark called oh a ended u true stood stand None
+batch_stops inner inner' refuses told' allows method seen mark called oh a ended u true stood stand None
     has p tasks why seen' mark' on so_inside h = some_none _ on
-batch_stops inner inner' refuses allows method seen mark called oh a ended u false stood stand None
+batch_stops inner inner' refuses told' allows method seen mark called oh a ended u false stood stand None
     has p tasks why seen' mark' on so_inside h =
-    stops_batch inner inner' refuses allows method seen mark called oh a ended u stood stand p tasks
+    stops_batch inner inner' refuses told' allows method seen mark called oh a ended u stood stand p tasks
     why seen' mark' so_inside h
 
 pub batch_refused : (inner inner' : DownPast → Type 0)
-    (refuses' : DownPast → List HttpTask → Error → Type 0)
+    (refuses' : DownPast → List HttpTask → Error → Type 0) (told' : Told)
     (allows : Standing → LogEntry → Type 0) (method : List ℕ) (seen : Seen) (mark : ℕ)
     (called : List LogEntry) (oh a ended u u' rf stood stand : Bool) (st : Option Fail)
     (has : Bool) (p : DownPast)
@@ -906,15 +945,15 @@ pub batch_refused : (inner inner' : DownPast → Type 0)
     → BatchRefused (IsHooked inner' method seen'.downstream called seen'.log oh a ended u' true
     (stood && stand) st)
     (λ past left e.
-    RefusesOver inner' refuses' oh (stood && stand) stand true st called seen'.log past left e)
+    RefusesOver inner' refuses' oh (stood && stand) stand true st told' called seen'.log past left e)
     p tasks why
-batch_refused inner inner' refuses' allows method seen mark called oh a ended u u' rf stood stand
+batch_refused inner inner' refuses' told' allows method seen mark called oh a ended u u' rf stood stand
     (Some before) has p tasks made why seen' mark' on h = some_none _ on
-batch_refused inner inner' refuses' allows method seen mark called oh a ended u u' true stood stand
+batch_refused inner inner' refuses' told' allows method seen mark called oh a ended u u' true stood stand
     None has p tasks made why seen' mark' on h = some_none _ on
-batch_refused inner inner' refuses' allows method seen mark called oh a ended u u' false stood stand
+batch_refused inner inner' refuses' told' allows method seen mark called oh a ended u u' false stood stand
     None has p tasks made why seen' mark' on h =
-    refused_open inner inner' refuses' allows method seen mark called oh a ended u u' stood stand p
+    refused_open inner inner' refuses' told' allows method seen mark called oh a ended u u' stood stand p
     tasks made why seen' mark' h
 
 -- without a failure the error of a batch that is refused at once is that of the stop
@@ -972,14 +1011,16 @@ true_is b up = up
 
 -- a batch is refused before any filter is called
 pub at_once : (inner : DownPast → Type 0) (refuses : DownPast → List HttpTask → Error → Type 0)
-    (method : List ℕ) (c : HttpSession) (called log : List LogEntry)
+    (told' : Told) (method : List ℕ) (c : HttpSession) (called log : List LogEntry)
     (oh a ended u rf stood stand : Bool) (st : Option Fail) (has : Bool) (p : DownPast)
-    (tasks : List HttpTask) (why : Fail) → refused_at_once st rf has tasks ≡ Some why
+    (tasks : List HttpTask) (why : Fail)
+    → ((e : Error) → st ≡ Some (fail.Error e) → why ≡ fail.Error e → told'.errors ≡ 1 → ⊥)
+    → refused_at_once st rf has tasks ≡ Some why
     → IsHooked inner method c called log oh a ended u rf stood st p
     → BatchRefused (IsHooked inner method c called log oh a ended u rf stood st)
     (λ past left e.
-    RefusesOver inner refuses oh stood stand rf st called log past left e) p tasks why
-at_once inner refuses method c called log oh a ended u rf stood stand st has p tasks why
+    RefusesOver inner refuses oh stood stand rf st told' called log past left e) p tasks why
+at_once inner refuses told' method c called log oh a ended u rf stood stand st has p tasks why again
     is h =
     record {
       filtered = [];
@@ -990,8 +1031,9 @@ at_once inner refuses method c called log oh a ended u rf stood stand st has p t
       is_put = refl;
       is_batched = sym (append-nil p.batched);
       is_closing = refl;
-      refused = λ e no_failure told. had_stopped
-          (at_once_by st rf has tasks why e is no_failure told);
+      refused = λ e no_failure told.
+          let stopped = at_once_by st rf has tasks why e is no_failure told in
+          had_stopped (stopped, again e stopped told);
     }
 
 -- ---- the calls
@@ -1026,10 +1068,14 @@ begins holds method c called log oh ended u p stood head none none' own h = reco
   parts = sym stood ∙ sym (append-nil called);
   request = λ plain. record {
     each = All-nil PieceCall;
+    few = omega arith;
+    ends_last = ends_one [] None (λ none. true≢false (sym none));
     rest = [];
     read = refl;
     all = λ so. refl;
     told = λ t. absurd (true≢false (sym t));
+    told_last = tt;
+    told_whole = λ t. refl;
     left = none;
     is_ended = refl;
   };

@@ -1,6 +1,7 @@
 -- How the log goes on by a call of a side: by the calls of hooks that it led to, while between them
 -- the client's own session moves on.
 use Rattle.std.proofs.Common.{◌≡◌, ℕ, Bool, true, false, ◌||◌, if◌then◌else◌, List, [], ◌∷◌, Option, Some, None, is_some, Err, append-nil, refl, sym, ap, subst, true≢false, ◌∙◌, IsSome, unwrap_or}
+use Rattle.std.proofs.lemmas.List.Elements.{All-cons, All-nil}
 use Rattle.relay_tasks.specs.Head.{RequestHead, new_request}
 use Rattle.relay_tasks.specs.declared.error.Fail.{Fail}
 use Rattle.relay_tasks.specs.declared.error.Fail.TheVariants as fail
@@ -24,7 +25,7 @@ use Rattle.relay_calls.proofs.LogLemmas.{Views-same, Walk-append, Walk-behind}
 use Rattle.relay_sides.specs.Client.{IsLasting}
 use Rattle.relay_filters.specs.Chain.{Refuses}
 use Rattle.relay_filters.specs.Request.{Filtered, Filters, is_last}
-use Rattle.relay_filters.specs.Response.{Adds, BatchPasses, BatchStops, Outcome}
+use Rattle.relay_filters.specs.Response.{Adds, BatchPasses, BatchStops, IsFilterCall, Outcome}
 use Rattle.relay_filters.specs.Hooked.{Lasts, Stays, Walks, WalksTo, is_lost, refused_at_once, seen_by, stood_head}
 use Rattle.relay_filters.proofs.LentSide.{takes_head}
 use Rattle.relay_filters.proofs.OutcomeLemmas.{call_client}
@@ -79,6 +80,7 @@ walks_side allows false seen c c' mark lasts = record {
   es = [];
   log = sym (append-nil seen.log);
   walk = views_on seen c c' mark lasts;
+  plain = All-nil IsFilterCall;
 }
 walks_side allows true seen c c' mark lasts = refl
 
@@ -121,6 +123,9 @@ walks_call app modules seen c c' mark bytes end new mark' left lasts call =
           (standing None false (moment new mark')) (views_on seen c c' mark lasts)
           (CallsOf-walks app modules None false hook.RequestBodyFilter (item.Piece bytes end)
           (seen_by seen c') mark new mark' left call refl);
+      plain = All-cons IsFilterCall e []
+          (record { is_filter = refl; quiet = ap (λ (s : Seen). s.wrote) call.lawful.rest })
+          (All-nil IsFilterCall);
     }
 
 -- the session behind the call has a head
@@ -184,6 +189,7 @@ lasts_refused it app modules a oh None fail.OutOfMemory seen c c' lent mark ende
         to = standing None false (moment (seen_by seen c) mark);
         log = f ∙ sym (append-nil seen.log);
         walk = Views-same _;
+        plain = All-nil IsFilterCall;
       };
     }
 
@@ -214,6 +220,7 @@ lasts_batch it allows a oh None rf tasks seen c lent took mark seen' mark' es on
             (Walk-append allows es [] (standing None false (moment (seen_by seen c) mark))
             (standing None false (moment (seen_by seen' lent) mark')) behind adds.walk
             (views_on seen' lent took mark' lasts));
+        plain = adds.plain;
       };
     }
 
@@ -234,12 +241,18 @@ lasts_stopped it allows a oh None (fail.Error error) rf stand tasks seen c lent 
       stays = ap (λ (o : Option RequestHead). stays_with it a oh o)
           (head_stays false false c lent (takes_head None rf _ tasks on)
           (λ kept. adds.head));
-      walks = record { es = es; log = adds.log; walk = adds.walk };
+      walks = record { es = es; log = adds.log; walk = adds.walk; plain = adds.plain };
     }
 lasts_stopped it allows a oh None fail.OutOfMemory rf stand tasks seen c lent mark seen' mark'
     on (es, adds, fed) = record {
       stays = ap (λ (o : Option RequestHead). stays_with it a oh o)
           (head_stays false true c lent (takes_head None rf _ tasks on)
           (λ kept. absurd (true≢false kept)));
-      walks = record { es = es; to = adds.to; log = adds.log; walk = adds.walk };
+      walks = record {
+        es = es;
+        to = adds.to;
+        log = adds.log;
+        walk = adds.walk;
+        plain = adds.plain;
+      };
     }

@@ -1,6 +1,6 @@
 -- What passed through a side behind filters: what its inner side put and was given, and by the log
 -- what the filters let pass and made of it.
-use Rattle.std.specs.Prelude.{◌≡◌, ℕ, Bool, true, false, ◌||◌, if◌then◌else◌, ◌⊎◌, List, [], ◌∷◌, ◌++◌, drop, length, Option, Some, None, is_some, option_map, unwrap_or, IsSome, Result, Ok, Err}
+use Rattle.std.specs.Prelude.{◌≡◌, ℕ, All, Bool, true, false, ◌||◌, if◌then◌else◌, ◌⊎◌, List, [], ◌∷◌, ◌++◌, drop, length, Option, Some, None, is_some, option_map, unwrap_or, IsSome, Result, Ok, Err}
 use Rattle.relay_tasks.specs.declared.error.Error.{Error}
 use Rattle.relay_tasks.specs.declared.error.Fail.{Fail}
 use Rattle.relay_tasks.specs.declared.error.Fail.TheVariants as fail
@@ -24,8 +24,8 @@ use Rattle.relay_sides.specs.Client.{IsSide, state_of}
 use Rattle.relay_sides.specs.Filtered.{is_head_request, stops_for_error}
 use Rattle.relay_sides.specs.declared.client_side.ClientSide.{ClientSide}
 use Rattle.relay_filters.specs.Chain.{Refuses}
-use Rattle.relay_filters.specs.Request.{PassesRequest}
-use Rattle.relay_filters.specs.Response.{BatchStops, MakesOf, WasMade}
+use Rattle.relay_filters.specs.Request.{PassesRequest, PieceCall}
+use Rattle.relay_filters.specs.Response.{BatchStops, IsFilterCall, MakesOf, WasMade}
 use Rattle.relay_filters.specs.Segments.{InSegments}
 use Rattle.relay_filters.specs.declared.rested.Rested.{Rested}
 use Rattle.relay_filters.specs.declared.rested.Shown.{Shown}
@@ -114,14 +114,15 @@ stays_of app side = record {
   head = stood_head (is_lost side.stopped) side.inner.session;
 }
 
--- calls were entered behind what stood in the log, each of them allowed, and lead from the session
--- and the context's mark as they were to both as they are
+-- calls were entered behind what stood in the log, each of them allowed and a filter's that queued
+-- nothing, and lead from the session and the context's mark as they were to both as they are
 pub record WalksTo (allows : Standing → LogEntry → Type 0) (old : Seen) (mark : ℕ) (new : Seen)
     (mark' : ℕ) : Type 0 where
   pub es : List LogEntry
   pub log : new.log ≡ old.log ++ es
   pub walk : Walk allows (standing None false (moment old mark)) es
       (standing None false (moment new mark'))
+  pub plain : All IsFilterCall es
 
 -- the same, where memory was wanted in a call that was not entered: it may have left more
 pub record WalksOut (allows : Standing → LogEntry → Type 0) (old : Seen) (mark : ℕ) (new : Seen)
@@ -130,6 +131,7 @@ pub record WalksOut (allows : Standing → LogEntry → Type 0) (old : Seen) (ma
   pub to : Standing
   pub log : new.log ≡ old.log ++ es
   pub walk : Walk allows (standing None false (moment old mark)) es to
+  pub plain : All IsFilterCall es
 
 -- how the log goes on, by whether memory was wanted in a call before, and is now: where it was, no
 -- call is entered any more
@@ -145,6 +147,14 @@ pub record Lasts {A : Type 0} (allows : Standing → LogEntry → Type 0)
     (new : Seen) (mark' : ℕ) : Type 0 where
   pub stays : new_stays ≡ old_stays
   pub walks : Walks allows was_lost lost old mark new mark'
+
+-- a side still holds the session, the context and the rest of it that it was made over: each is
+-- behind the same reference, by its name
+pub record SameNames {N : Type 0} (old_session new_session old_ctx new_ctx old_side new_side : N)
+    : Type 0 where
+  pub session : new_session ≡ old_session
+  pub ctx : new_ctx ≡ old_ctx
+  pub side : new_side ≡ old_side
 
 -- the past of the inner side over the client's session; where that is lost, over the one before
 abbrev pub PastOf : Bool → (HttpSession → DownPast → Type 0) → HttpSession → DownPast → Type 0
@@ -214,29 +224,53 @@ abbrev pub put_by : Result Piece Fail → List HttpTask
 put_by (Ok made) = put_of false made
 put_by (Err why) = []
 
--- the side answers for an error: its inner one does, or it stopped for it
-abbrev pub BlamesOver : (DownPast → Type 0) → (DownPast → Error → Type 0) → Option Fail → DownPast
-    → Error → Type 0
-BlamesOver inner blames stopped p e =
-    ((came : List HttpTask) × (queued : List HttpTask) × inner (inside p came queued)
-    × blames (inside p came queued) e)
-    ⊎ (stopped ≡ Some (fail.Error e))
+-- the last of these calls is one of the filter of requests, which answered that error
+pub record RefusesPiece (e : Error) (es : List LogEntry) : Type 0 where
+  pub before : List LogEntry
+  pub call : LogEntry
+  pub are : es ≡ before ++ call ∷ []
+  pub is_piece : PieceCall call
+  pub answers : call.error ≡ Some e
+
+-- the side had stopped for that error before, and has told of it more than once
+abbrev pub HadStopped : Option Fail → Told → Error → Type 0
+HadStopped stopped told e = (stopped ≡ Some (fail.Error e)) × (told.errors ≡ 1 → ⊥)
+
+-- the side stopped for that error: the filter of requests answered it, by the last of the side's
+-- own calls; or it had stopped before
+abbrev pub StoppedFor : Option Fail → Told → List LogEntry → Error → Type 0
+StoppedFor stopped told own e =
+    ((stopped ≡ Some (fail.Error e)) × RefusesPiece e own) ⊎ HadStopped stopped told e
+
+-- the inner side answers for an error
+abbrev pub BlamesInside : (DownPast → Type 0) → (DownPast → Error → Type 0) → DownPast → Error
+    → Type 0
+BlamesInside inner blames p e =
+    (came : List HttpTask) × (queued : List HttpTask) × inner (inside p came queued)
+    × blames (inside p came queued) e
+
+-- the side answers for an error: its inner one does, or it stopped for it. `own` are its own calls
+abbrev pub BlamesOver : (DownPast → Type 0) → (DownPast → Error → Type 0) → Option Fail → Told
+    → List LogEntry → DownPast → Error → Type 0
+BlamesOver inner blames stopped told own p e =
+    BlamesInside inner blames p e ⊎ StoppedFor stopped told own e
 
 -- why the side refuses tasks: a filter, or the check behind one, stopped them, for what the last
--- call of the log answered or left; its inner one refuses what the filters made of them by the last
+-- call of the side answered or left; its inner one refuses what the filters made of them by the last
 -- calls of the log, behind what they made, by the calls of the side, of those before; or the side
 -- had stopped for that error before. `stand` says that modules stand
 pub data RefusesOver (inner : DownPast → Type 0)
     (refuses : DownPast → List HttpTask → Error → Type 0) (of_head stood stand refused : Bool)
-    (stopped : Option Fail) (called log : List LogEntry) (p : DownPast) (left : List HttpTask)
-    (e : Error) : Type 0 where
-  by_filter : (before own : List LogEntry) → log ≡ before ++ own → BatchStops of_head stand left own
-      → Refuses of_head e own → stopped ≡ Some (fail.Error e)
-      → RefusesOver inner refuses of_head stood stand refused stopped called log p left e
+    (stopped : Option Fail) (told : Told) (called log : List LogEntry) (p : DownPast)
+    (left : List HttpTask) (e : Error) : Type 0 where
+  by_filter : (before own : List LogEntry) → log ≡ called ++ (before ++ own)
+      → BatchStops of_head stand left own → Refuses of_head e own
+      → stopped ≡ Some (fail.Error e)
+      → RefusesOver inner refuses of_head stood stand refused stopped told called log p left e
   by_inner : (came queued made : List HttpTask) → inner (inside p came queued)
       → (own : List LogEntry) → log ≡ called ++ own
       → MakesOf of_head stood own (TakesOn stopped refused) p.batched queued
       → WasMade of_head stand own left made → refuses (inside p came queued) made e
-      → RefusesOver inner refuses of_head stood stand refused stopped called log p left e
-  had_stopped : stopped ≡ Some (fail.Error e)
-      → RefusesOver inner refuses of_head stood stand refused stopped called log p left e
+      → RefusesOver inner refuses of_head stood stand refused stopped told called log p left e
+  had_stopped : HadStopped stopped told e
+      → RefusesOver inner refuses of_head stood stand refused stopped told called log p left e

@@ -1,6 +1,6 @@
 -- The request as its filter lets it pass, read off the log: what each call was given, and what went
 -- on of it.
-use Rattle.std.specs.Prelude.{◌≡◌, ℕ, All, Bool, true, false, ◌&&◌, ◌||◌, if◌then◌else◌, List, [], ◌∷◌, ◌++◌, Option, None, is_some, is_none, unwrap_or, Result, Ok, Err}
+use Rattle.std.specs.Prelude.{◌≡◌, ℕ, ◌≤◌, All, Bool, true, false, ◌&&◌, ◌||◌, if◌then◌else◌, List, [], ◌∷◌, ◌++◌, length, Option, None, is_some, is_none, unwrap_or, Result, Ok, Err}
 use Rattle.std.specs.List.{list_any}
 use Rattle.relay_tasks.specs.Task.{is_end}
 use Rattle.relay_tasks.specs.declared.error.Error.{Error}
@@ -12,6 +12,7 @@ use Rattle.relay_tasks.specs.declared.log.Item.TheVariants as item
 use Rattle.relay_tasks.specs.declared.log.LogEntry.{LogEntry}
 use Rattle.relay_tasks.specs.declared.task.HttpTask.{HttpTask}
 use Rattle.relay_tasks.specs.declared.task.HttpTask.TheVariants as task
+use Rattle.relay_core.specs.Moves.{EndsLast}
 use Rattle.relay_core.specs.Piece.{put_of}
 use Rattle.relay_core.specs.declared.piece.Piece.{Piece}
 use Rattle.relay_modules.specs.declared.seen.Seen.{Seen}
@@ -71,6 +72,11 @@ end_in other = false
 abbrev pub is_told_end : LogEntry → Bool
 is_told_end e = end_in e.input
 
+-- a call that was told the end of the request is the last one
+abbrev pub ToldLast : List LogEntry → Type 0
+ToldLast [] = Unit {0}
+ToldLast (e ∷ es) = (is_told_end e ≡ true → es ≡ []) × ToldLast es
+
 -- the filter of requests was called with a piece, and left this of it; it is told the end of what
 -- it leaves as of what it is given
 pub record PieceCall (e : LogEntry) : Type 0 where
@@ -118,16 +124,21 @@ abbrev pub body_of : List HttpTask → List ℕ
 body_of [] = []
 body_of (task ∷ tasks) = bytes_of task ++ body_of tasks
 
--- the request as it came and as it passed by these calls, each with a piece: they were given what
--- came, from its first byte, and all of it while the side goes on, and are told the end only where
--- an end came; what is put is what they left, up to the first end
+-- the request as it came and as it passed by these calls, each with a piece that came: they were
+-- given what came, from its first byte, and all of it while the side goes on, and are told the end
+-- only where an end came, which is the last of it, by the last of them, and with all that is left;
+-- what is put is what they left, up to the first end
 pub record PassesRequest (at_first ended : Bool) (es : List LogEntry) (goes_on : Type 0)
     (came put : List HttpTask) : Type 0 where
   pub each : All PieceCall es
+  pub few : length es ≤ length came
+  pub ends_last : EndsLast came
   pub rest : List ℕ
   pub read : body_of came ≡ given_to es ++ rest
   pub all : goes_on → rest ≡ []
   pub told : list_any is_told_end es ≡ true → list_any is_end came ≡ true
+  pub told_last : ToldLast es
+  pub told_whole : list_any is_told_end es ≡ true → rest ≡ []
   pub left : put ≡ passed at_first es
   pub is_ended : ended ≡ ended_by at_first es
 

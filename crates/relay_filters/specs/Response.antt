@@ -1,6 +1,6 @@
 -- A batch of the response behind the filters of the application and those of the modules: what
 -- their calls add to the log, and what an attempt's response came to.
-use Rattle.std.specs.Prelude.{◌≡◌, ℕ, Bool, true, false, List, [], ◌++◌, None, IsSome, Result, Ok, Err}
+use Rattle.std.specs.Prelude.{◌≡◌, ℕ, Bool, true, false, ◌||◌, All, List, [], ◌++◌, None, IsSome, Result, Ok, Err}
 use Rattle.relay_tasks.specs.declared.error.Error.{Error}
 use Rattle.relay_tasks.specs.declared.error.Fail.{Fail}
 use Rattle.relay_tasks.specs.declared.error.Fail.TheVariants as fail
@@ -11,7 +11,7 @@ use Rattle.relay_modules.specs.Module.{ModuleCall}
 use Rattle.relay_modules.specs.declared.seen.Seen.{Seen}
 use Rattle.relay_hooks.specs.Session.{moment}
 use Rattle.relay_hooks.specs.Standing.{Standing, standing}
-use Rattle.relay_calls.specs.Log.{Walk, modules_in, requests_in, responses_in}
+use Rattle.relay_calls.specs.Log.{Walk, filters_request, filters_response, is_module_response, modules_in, requests_in, responses_in}
 use Rattle.relay_sides.specs.Lent.{SameButHead}
 use Rattle.relay_filters.specs.Chain.{AllPass, FrontPasses, ModuleChain, ModuleFeeds, PassedModules, PassesModules, TaskChain, TaskFeeds}
 
@@ -29,13 +29,21 @@ pub record PartsOf (es by_app by_modules : List LogEntry) : Type 0 where
   pub responses : responses_in es ≡ by_app
   pub modules : modules_in es ≡ by_modules
 
+-- a call of a filter of the request's body or of the response, which queued nothing
+pub record IsFilterCall (e : LogEntry) : Type 0 where
+  pub is_filter :
+      (filters_request e.hook || (filters_response e.hook || is_module_response e.hook)) ≡ true
+  pub quiet : e.wrote ≡ []
+
 -- these calls were entered, behind what stood in the log, and lead from the session and the context
--- as they were to both as they are. Of the client's session they changed no more than the head
+-- as they were to both as they are. Each is a filter's, and queued nothing. Of the client's session
+-- they changed no more than the head
 pub record Adds (allows : Standing → LogEntry → Type 0) (old : Seen) (mark : ℕ) (new : Seen)
     (mark' : ℕ) (es : List LogEntry) : Type 0 where
   pub log : new.log ≡ old.log ++ es
   pub walk : Walk allows (standing None false (moment old mark)) es
       (standing None false (moment new mark'))
+  pub plain : All IsFilterCall es
   pub head : IsSome (head_of new.downstream.reading)
   pub client : SameButHead old.downstream new.downstream
 
@@ -45,6 +53,7 @@ pub record AddsSome (allows : Standing → LogEntry → Type 0) (old : Seen) (ma
   pub to : Standing
   pub log : new.log ≡ old.log ++ es
   pub walk : Walk allows (standing None false (moment old mark)) es to
+  pub plain : All IsFilterCall es
 
 -- what a filter, or several, came to: what passed did so by the calls that were entered. An error
 -- comes behind the calls so far, and has its cause in the last of them

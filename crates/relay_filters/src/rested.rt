@@ -1,16 +1,24 @@
 //! The client's side behind filters without the application that has them, and without the session
 //! and the context that hooks are shown: all of it that is held between two turns.
-ghost use Rattle.std.specs.Prelude.{◌≡◌, ◌&&◌, ◌<◌, ◌+◌, ◌^◌, ◌-◌, None, Some, drop, false, length, min, is_some, true};
-ghost use Rattle.relay_session.specs.Reading.{is_body_done};
+ghost use Rattle.std.specs.Prelude.{◌≡◌, ◌&&◌, ◌<◌, ◌+◌, ◌^◌, ◌-◌, [], None, Some, IsSome, IfOk, IfErr, drop, false, length, min, is_some, option_map, unwrap_or, true};
+ghost use Rattle.std.specs.List.{list_any};
+ghost use Rattle.relay_tasks.specs.Task.{is_end};
+ghost use Rattle.relay_tasks.specs.declared.error.Fail.TheVariants as fail;
+ghost use Rattle.relay_session.specs.Reading.{head_of, is_body_done};
+ghost use Rattle.relay_core.specs.Past.{Origin, DownPast};
+ghost use Rattle.relay_core.specs.Piece.{put_of, task_put_of};
 ghost use Rattle.relay_core.specs.Told.{failed};
+ghost use Rattle.relay_sides.specs.Filtered.{is_head_request};
 ghost use Rattle.relay_filters.specs.Delay.{delays_of};
-ghost use Rattle.relay_filters.specs.Hooked.{is_lost, state_of_side};
+ghost use Rattle.relay_filters.specs.Request.{Filters, is_last};
+ghost use Rattle.relay_filters.specs.Hooked.{HookedPast, InnerPast, PastBy, failure_in_front, is_lost, put_by, refused_at_once, seen_by, state_of_side};
 
-use relay_core::{Down, Told};
-use relay_hooks::Session;
+use crate::lent::pass_piece;
+use relay_core::{Down, Piece, Told};
+use relay_hooks::{ProxyHttp, Session};
 use relay_session::Front;
 use relay_sides::ClientSide;
-use relay_tasks::{Fail, PhaseLog};
+use relay_tasks::{Error, Fail, HttpTask, PhaseLog, Result, TaskList};
 
 /// What a side showed when it stopped: whether the client's body had ended, before the piece that
 /// did not pass, and whether output was pending.
@@ -21,7 +29,7 @@ pub(crate) struct Shown {
 }
 
 /// A client's side behind filters, without the application, the session and the context. It borrows
-/// nothing: `Hooked::suspend` gives it, and `Hooked::resume` takes it.
+/// nothing; for a turn `Hooked::over` borrows it.
 #[derive(Drop)]
 pub struct Rested {
     // Has the client's session, but while hooks are called.
@@ -43,6 +51,27 @@ pub struct Rested {
     pub(crate) stood: bool,
     // What the side showed when it stopped.
     pub(crate) was: Shown,
+}
+
+/// The error of a failure in front.
+fn failure_in_front(tasks: &TaskList) -> Option<Error>
+    ensures { result ≡ failure_in_front tasks.now }
+{
+    match tasks.get(0) {
+        Some(HttpTask::Failed(error)) => Some(*error),
+        Some(_) | None => None,
+    }
+}
+
+/// The error of a failure in front, or else that one.
+fn failure_or(tasks: &TaskList, why: Fail) -> Fail
+    ensures { result
+        ≡ unwrap_or (option_map fail.Error (failure_in_front tasks.now)) why }
+{
+    match failure_in_front(tasks) {
+        Some(error) => Fail::Error(error),
+        None => why,
+    }
 }
 
 /// The delay that the call at that place of the log asked for.
@@ -90,13 +119,7 @@ pub(crate) fn still_stood<M>(stood: bool, session: &Session<M>) -> bool
 
 impl Rested {
     /// A side over that one, which nothing has stopped; `ended` says that the request has ended.
-    pub(crate) fn new(
-        inner: ClientSide,
-        told: Told,
-        of_head: bool,
-        counted: usize,
-        ended: bool,
-    ) -> Rested
+    fn new(inner: ClientSide, told: Told, of_head: bool, counted: usize, ended: bool) -> Rested
         ensures { result ≡ record {
           inner = inner;
           told = told;
@@ -124,6 +147,116 @@ impl Rested {
                 body_done: false,
                 pending: false,
             },
+        }
+    }
+
+    /// The side over that one; the calls of its application are to stand behind that log. `ended`
+    /// says that the request ended with its head, `of_head` that it is a HEAD. It tells what the
+    /// inner one has told, which has the client's session: what stands in its place in the session
+    /// beside the side is shown to no hook.
+    ///
+    /// What passed is as inside, where nothing was put or taken yet and the client's head was read.
+    pub fn begin<F: Front>(inner: ClientSide, log: &PhaseLog, ended: bool, of_head: bool) -> Rested
+        ensures inner { result.inner ≡ inner }
+        ensures begins { (client : F) (s : Origin) (p : DownPast)
+            → IsSome (head_of inner.session.reading) → p.put ≡ [] → p.batched ≡ []
+            → of_head ≡ is_head_request s.head.method
+            → PastBy s (F.state client) (F.ahead client) inner inner.session p
+            → s.called ≡ log.now
+            → HookedPast (InnerPast result.stopped s (F.state client) (F.ahead client) result.inner)
+            s.head.method result.inner.session s.called log.now result.of_head result.at_first
+            result.ended false result.refused result.stood result.stopped result.told
+            result.inner.told p }
+        // Nothing has stopped it, and it has told what its inner side has.
+        ensures at_first { result.at_first ≡ ended }
+        ensures ended { result.ended ≡ ended }
+        ensures of_head { result.of_head ≡ of_head }
+        ensures stopped { result.stopped ≡ None }
+        ensures refused { result.refused ≡ false }
+        ensures told { result.told ≡ inner.told }
+        ensures counted { result.counted ≡ length log.now }
+        ensures stood { result.stood ≡ true }
+    {
+        let told = Down::<F>::told(&inner);
+        Rested::new(inner, told, of_head, log.len(), ended)
+    }
+
+    /// The side of an attempt that puts again what was read of the body, as `begin`, and what
+    /// passes of that: `first` is all that was read, as one piece, with the end of a body that has
+    /// ended. It passes the filter of requests by one call, before any piece that is read. What
+    /// passes is put first. An error of the filter stops the side before anything was put.
+    ///
+    /// What passed is as inside, where that piece was put and nothing was taken yet.
+    pub fn begin_again<SV: ProxyHttp, F: Front>(
+        app: &SV,
+        session: &mut Session<SV::Modules>,
+        ctx: &mut SV::CTX,
+        inner: ClientSide,
+        first: Piece,
+        of_head: bool,
+    ) -> (Rested, Result<Piece>)
+        requires { IsSome (head_of inner.session.reading) }
+        ensures begins { (client : F) (s : Origin) (p : DownPast) → p.put ≡ put_of false first
+            → is_some (task_put_of false first) ≡ true → p.batched ≡ []
+            → (is_last first ≡ true → list_any is_end (put_of false first) ≡ true)
+            → of_head ≡ is_head_request s.head.method
+            → PastBy s (F.state client) (F.ahead client) inner inner.session p
+            → s.called ≡ session.old.seen.log
+            → HookedPast (InnerPast result.0.stopped s (F.state client) (F.ahead client)
+            result.0.inner) s.head.method result.0.inner.session s.called session.new.seen.log
+            result.0.of_head result.0.at_first result.0.ended false result.0.refused result.0.stood
+            result.0.stopped result.0.told result.0.inner.told
+            (record p { put = put_by result.1 }) }
+        // The request has ended where it ends with what passes, and the client's body where it had.
+        ensures ended { IfOk result.1 (λ made. result.0.ended ≡ made.upstream_end) }
+        ensures end { IfOk result.1 (λ made. is_last first ≡ true → made.upstream_end ≡ true) }
+        ensures body { IfOk result.1 (λ made. is_body_done result.0.inner.session.reading
+            ≡ is_body_done inner.session.reading) }
+        ensures goes_on { IfOk result.1 (λ made. result.0.stopped ≡ None) }
+        ensures failed { IfErr result.1 (λ why. result.0.stopped ≡ Some why) }
+        // That call, with that piece, is the only one, and stands behind all that stood in the log;
+        // where memory was wanted it has no entry. Of the inner side hooks change the session alone.
+        ensures filters { Filters (SV.allows app.now) false first result.1
+            (seen_by session.old.seen inner.session) (SV.mark_of app.now ctx.old)
+            (seen_by session.new.seen result.0.inner.session) (SV.mark_of app.now ctx.new) }
+        ensures rest { result.0.inner ≡ record inner { session = result.0.inner.session } }
+        ensures at_first { result.0.at_first ≡ false }
+        ensures of_head { result.0.of_head ≡ of_head }
+        ensures refused { result.0.refused ≡ false }
+        ensures told { IfOk result.1 (λ made. result.0.told ≡ inner.told) }
+        ensures tells { IfErr result.1 (λ why. result.0.told ≡ failed why inner.told) }
+        ensures counted { result.0.counted ≡ length session.old.seen.log }
+        ensures stood { result.0.stood ≡ true }
+    {
+        let counted = session.phase_log().len();
+        let told = Down::<F>::told(&inner);
+        let mut side = Rested::new(inner, told, of_head, counted, false);
+        let was = side.shows::<F>();
+        match pass_piece(app, session, ctx, &mut side.inner, false, first) {
+            Ok(made) => {
+                side.ended = made.upstream_end;
+                (side, Ok(made))
+            }
+            Err(why) => {
+                side.stop(why, was);
+                (side, Err(why))
+            }
+        }
+    }
+
+    /// Why a batch is refused before any filter is called: the side has stopped, or its inner one
+    /// refused a batch before, or the client's session has no head, and so no hook may be lent it.
+    /// A failure in front is answered with its error. Where no error is there to be told, it is out
+    /// of memory.
+    pub(crate) fn refused_at_once(&self, tasks: &TaskList) -> Option<Fail>
+        ensures { result ≡ refused_at_once self.now.stopped self.now.refused
+            (is_some (head_of self.now.inner.session.reading)) tasks.now }
+    {
+        match self.stopped {
+            Some(why) => Some(failure_or(tasks, why)),
+            None if self.refused => Some(failure_or(tasks, Fail::OutOfMemory)),
+            None if self.inner.session().has_head() => None,
+            None => Some(Fail::OutOfMemory),
         }
     }
 

@@ -35,7 +35,7 @@ use Rattle.relay_sides.specs.Filtered.{is_head_request}
 use Rattle.relay_filters.specs.Hooked.{seen_by}
 use Rattle.relay_filters.specs.Request.{Filters, is_last}
 use Rattle.relay_hooked.specs.Begins.{CallsOnce, CannotPut, IsRefusedFor, kept_piece}
-use Rattle.relay_hooked.specs.declared.exchange.Begun.{Begun}
+use Rattle.relay_hooked.specs.declared.exchange.HookedExchange.{HookedExchange}
 use Rattle.relay_hooked.specs.declared.exchange.Unbegun.{Unbegun}
 
 -- ---- a piece
@@ -122,7 +122,8 @@ module _ {M C : Type 0} (session : Session M) (ctx : C) (client : HttpSession)
         ap (λ (l : List HttpTask). length l) empty in
         omega arith
     grown (CallsOnce.once one made f) =
-        let log = ap (λ (l : List LogEntry). length l) f.call.log ∙ length-append session.seen.log _ in
+        let log = ap (λ (l : List LogEntry). length l) f.call.log
+        ∙ length-append session.seen.log _ in
         omega arith
 
     -- no hook was called
@@ -180,68 +181,54 @@ one_more : {A : Type 0} (xs : List A) (x : A) → xs ≡ xs ++ x ∷ [] → ⊥
 one_more {A} xs x is =
     let longer = ap (λ (l : List A). length l) is ∙ length-append xs (x ∷ []) in omega arith
 
-module _ {M C L : Type 0} (session : Session M) (ctx : C) (client : HttpSession)
+-- one that was not begun is that one
+same_unbegun : {L : Type 0} (x other : Unbegun L)
+    → ◌≡◌ {A = Result (HookedExchange L) (Unbegun L)} (Err x) (Err other) → other ≡ x
+same_unbegun x other same = cc
+
+-- where nothing could be put first the head was not refused: a filter that answered the same error
+-- has its call in the log
+not_refused : {M C : Type 0} (session : Session M) (ctx : C) (client : HttpSession)
+    (allows : Standing → LogEntry → Type 0) (mark_of : C → ℕ) (session' : Session M) (ctx' : C)
+    (why : Fail) (client' : HttpSession)
+    → CannotPut session ctx client allows mark_of why session' ctx' client'
+    → why ≡ fail.Error bad_framing → session'.seen.log ≡ session.seen.log → ⊥
+not_refused session ctx client allows mark_of session' ctx' why client'
+    (CannotPut.before memory same) is log = absurd (cc)
+not_refused session ctx client allows mark_of session' ctx' why client'
+    (CannotPut.by_filter e failed one f) is log =
+    one_more session.seen.log _ (sym log ∙ f.call.log)
+not_refused session ctx client allows mark_of session' ctx' why client'
+    (CannotPut.in_filter memory one same) is log = absurd (cc)
+
+-- nothing could be put first of a request whose head has a framing
+pub refused_later : {M C L : Type 0} (session : Session M) (ctx : C) (client : HttpSession)
     (allows : Standing → LogEntry → Type 0) (mark_of : C → ℕ) (head : RequestHead)
-  where
-    -- the exchange was refused so, and the log is as it was
-    abbrev Refuses : Unbegun M C L → Type 0
-    Refuses x =
-        IsRefusedFor {M = M} {C = C} {L = L} (Err x) (fail.Error bad_framing) session.seen.log
+    (session' : Session M) (ctx' : C) (x : Unbegun L)
+    → CannotPut session ctx client allows mark_of x.why session' ctx' x.client
+    → (request_framing head ≡ None → ⊥)
+    → IsRefusedFor {L = L} (Err x) (fail.Error bad_framing) session.seen.log session'.seen.log
+    ↔ (request_framing head ≡ None)
+refused_later {M} {C} {L} session ctx client allows mark_of head session' ctx' x why framed = (
+  λ r. absurd (not_refused session ctx client allows mark_of session' ctx' x.why x.client why
+      (ap (λ (u : Unbegun L). u.why) (sym (same_unbegun x r.0 r.1)) ∙ r.2) r.3),
+  λ none. absurd (framed none),
+)
 
-    -- one that was not begun is that one
-    same_unbegun : (x other : Unbegun M C L)
-        → ◌≡◌ {A = Result (Begun M C L) (Unbegun M C L)} (Err x) (Err other) → other ≡ x
-    same_unbegun x other same = cc
-
-    -- where nothing could be put first the head was not refused: a filter that answered the same
-    -- error has its call in the log
-    not_refused : (x : Unbegun M C L)
-        → CannotPut session ctx client allows mark_of x.why x.session x.ctx x.client
-        → x.why ≡ fail.Error bad_framing → x.session.seen.log ≡ session.seen.log → ⊥
-    not_refused x (CannotPut.before memory same) why log = absurd (cc)
-    not_refused x (CannotPut.by_filter e is one f) why log =
-        one_more session.seen.log _ (sym log ∙ f.call.log)
-    not_refused x (CannotPut.in_filter memory one same) why log = absurd (cc)
-
-    -- nothing could be put first of a request whose head has a framing
-    pub refused_later : (x : Unbegun M C L)
-        → CannotPut session ctx client allows mark_of x.why x.session x.ctx x.client
-        → (request_framing head ≡ None → ⊥) → Refuses x ↔ (request_framing head ≡ None)
-    refused_later x why framed = (
-      λ r. absurd (of r.0 (same_unbegun x r.0 r.1) r.2 r.3),
-      λ none. absurd (framed none),
+-- the head was refused, or memory was wanted for it
+pub refused_first : {T L : Type 0} (log : List LogEntry) (client : HttpSession) (head : RequestHead)
+    (link : L) (why : Fail)
+    → IsErrOf {T = T} (Err why) (fail.Error bad_framing) ↔ (request_framing head ≡ None)
+    → IsRefusedFor {L = L} (Err (record { client = client; link = link; why = why }))
+    (fail.Error bad_framing) log log
+    ↔ (request_framing head ≡ None)
+refused_first {T} {L} log client head link why same =
+    let x : Unbegun L = record { client = client; link = link; why = why } in (
+      λ r. same.0 (ap (λ (w : Fail). Err w)
+          (ap (λ (u : Unbegun L). u.why) (sym (same_unbegun x r.0 r.1)) ∙ r.2)),
+      λ none. (x, refl, as_err (same.1 none), refl),
     )
-      where
-        of : (other : Unbegun M C L) → other ≡ x → other.why ≡ fail.Error bad_framing
-            → other.session.seen.log ≡ session.seen.log → ⊥
-        of other is because log =
-            not_refused x why (ap (λ (u : Unbegun M C L). u.why) (sym is) ∙ because)
-            (ap (λ (u : Unbegun M C L). u.session.seen.log) (sym is) ∙ log)
-
-    -- the head was refused, or memory was wanted for it
-    pub refused_first : {T : Type 0} (link : L) (why : Fail)
-        → IsErrOf {T = T} (Err why) (fail.Error bad_framing) ↔ (request_framing head ≡ None)
-        → Refuses (record {
-          session = session;
-          ctx = ctx;
-          client = client;
-          link = link;
-          why = why;
-        })
-        ↔ (request_framing head ≡ None)
-    refused_first {T} link why same =
-        let x : Unbegun M C L = record {
-          session = session;
-          ctx = ctx;
-          client = client;
-          link = link;
-          why = why;
-        } in (
-          λ r. same.0 (ap (λ (w : Fail). Err w)
-              (ap (λ (u : Unbegun M C L). u.why) (sym (same_unbegun x r.0 r.1)) ∙ r.2)),
-          λ none. (x, refl, as_err (same.1 none), refl),
-        )
-      where
-        as_err : ◌≡◌ {A = Result T Fail} (Err why) (Err (fail.Error bad_framing))
-            → why ≡ fail.Error bad_framing
-        as_err is = cc
+  where
+    as_err : ◌≡◌ {A = Result T Fail} (Err why) (Err (fail.Error bad_framing))
+        → why ≡ fail.Error bad_framing
+    as_err is = cc

@@ -13,12 +13,8 @@ use Rattle.relay_filters.specs.Request.{PieceCall, end_in, ended_by, has_piece, 
 use Rattle.relay_attempt.specs.Passed.{Passed}
 use Rattle.relay_hooked.specs.Calls.{Filtering}
 use Rattle.relay_hooked.specs.Order.{IsInOrderWith, is_taken, takes}
+use Rattle.relay_hooked.proofs.NeutralLemmas.{passed_none}
 use Rattle.relay_hooked.proofs.PassedLemmas.{passed_ends}
-
--- nothing passes once the request has ended
-none_passed : (es : List LogEntry) → passed true es ≡ []
-none_passed [] = refl
-none_passed (e ∷ es) = none_passed es
 
 -- one of two
 or_split : (a b : Bool) → (a || b) ≡ true → (a ≡ true) ⊎ (b ≡ true)
@@ -87,7 +83,7 @@ end_passed : (a : Bool) (es : List LogEntry) → All PieceCall es
     → list_any is_end (passed a es) ≡ true
     → (list_any is_told_end es ≡ true) ⊎ (list_any takes es ≡ true)
 end_passed true es all ends =
-    absurd (none_there (sym (ap (list_any is_end) (none_passed es)) ∙ ends))
+    absurd (none_there (sym (ap (list_any is_end) (passed_none es)) ∙ ends))
   where
     none_there : false ≡ true → ⊥
     none_there is = cc

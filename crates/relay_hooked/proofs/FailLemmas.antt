@@ -23,19 +23,20 @@ use Rattle.relay_core.specs.Moves.{HasReason, Refused}
 use Rattle.relay_core.specs.Past.{Origin, DownPast, UpPast}
 use Rattle.relay_core.proofs.BoolLemmas.{decide}
 use Rattle.relay_core.specs.declared.duplex.Duplex.{Duplex}
-use Rattle.relay_sides.specs.Client.{AllPass, ClientBlames, ClientRefuses, CannotEnd, Counts, CountsRead, IsUnanswered}
+use Rattle.relay_sides.specs.Client.{AllPass, ClientBlames, ClientRefuses, CannotEnd, Counts, IsUnanswered}
 use Rattle.relay_sides.specs.Client as client
 use Rattle.relay_sides.specs.Filtered.{is_head_request, stops_for_error}
 use Rattle.relay_sides.proofs.ClientTasks.{plain-append}
 use Rattle.relay_filters.specs.Chain.{Refuses}
-use Rattle.relay_filters.specs.Hooked.{RefusesOver, inside}
-use Rattle.relay_filters.specs.Response.{WasMade}
+use Rattle.relay_filters.specs.Hooked.{HadStopped, RefusesOver, StoppedFor, inside}
+use Rattle.relay_filters.specs.Response.{BatchStops, WasMade}
 use Rattle.relay_attempt.specs.Exchange.{DownHolds}
 use Rattle.relay_attempt.proofs.KeepLemmas.{over_ends}
 use Rattle.relay_attempt.proofs.OrderLemmas.{answers_own, front_pass, text_written}
 use Rattle.relay_attempt.proofs.SentLemmas.{stays_over}
 use Rattle.relay_attempt.proofs.WriterLemmas.{IsWriters, client_apart, peer_apart, refused_is}
 use Rattle.relay_hooked.specs.Attempt.{HookedHalf}
+use Rattle.relay_hooked.specs.Calls.{calls_behind}
 use Rattle.relay_hooked.specs.Laws.{GoesSoFar, passed_by}
 use Rattle.relay_hooked.specs.Order.{FailsFor, FailsWith, IsInOrderWith}
 use Rattle.relay_hooked.specs.Order as causes
@@ -106,7 +107,7 @@ module _ {L : Type 0} (state : L → LinkState) (start_at : L → LinkStart)
     -- it failed with the error, for a cause
     abbrev Fails : Type 0
     Fails = FailsWith (filtering s b) s (passed_by p q) link (state up.client.link)
-        (start_at up.client.link) b.side.session e
+        (start_at up.client.link) ahead b.side.session e
 
     -- for that cause, where the session holds what was queued by it
     fails_as : (why : FailsFor (filtering s b) s (passed_by p q) link (state up.client.link)
@@ -121,6 +122,9 @@ module _ {L : Type 0} (state : L → LinkState) (start_at : L → LinkStart)
               link ahead b.side.session c;
           holds = holds;
           broken = c.broken;
+          down = inside p so_far.down.passed.came so_far.down.passed.queued;
+          client = c;
+          came = refl;
         }
 
     -- as it holds the tasks that its side names
@@ -194,19 +198,28 @@ module _ {L : Type 0} (state : L → LinkState) (start_at : L → LinkStart)
         subst (λ (at : Place). is_over at ≡ false) (same_place came queued holds) unanswered) e
         blames)) held
 
-    -- a filter stopped the side, or the check behind one did
-    fails_stopped : b.stopped ≡ Some (fail.Error e) → Fails
-    fails_stopped is =
-        let passes : AllPass s (so_far.down.passed.queued ++ p.closing) = elim inside_tells [
-          | inl none ↦ so_far.down.passed.holds.tasks.none none
-          | inr one ↦ none_stopped b.stopped e one.2 is
-        ] in
+    -- where a filter stopped the side none of them is refused
+    stopped_passes : b.stopped ≡ Some (fail.Error e)
+        → AllPass s (so_far.down.passed.queued ++ p.closing)
+    stopped_passes is = elim inside_tells [
+      | inl none ↦ so_far.down.passed.holds.tasks.none none
+      | inr one ↦ none_stopped b.stopped e one.2 is
+    ]
+
+    -- no side had stopped for it before, which would have told more than one
+    fails_before : HadStopped b.stopped b.told e → Fails
+    fails_before (is, twice) = elim tells [
+      | inl none ↦ none_stopped b.stopped e (so_far.down.quiet.none none).1 is
+      | inr one ↦ absurd (twice one.0)
+    ]
+
+    -- it stopped for it: so the filter of requests answered it, by the last call
+    fails_stopped : StoppedFor b.stopped b.told (calls_behind s.called b.log) e → Fails
+    fails_stopped (inl (is, refused)) =
         fails_as
-        (FailsFor.by_filter (in_order None passes) is
-        (subst (λ (es : List LogEntry). Refuses (is_head_request s.head.method) e es)
-        (own_calls s.called so_far.down.passed.own b.log so_far.down.passed.parts)
-        (subst (λ (of_head : Bool). Refuses of_head e so_far.down.passed.own)
-        so_far.down.passed.is_of_head (so_far.down.passed.told e is)))) held
+        (FailsFor.by_piece (in_order None (stopped_passes is)) is refused.before refused.call
+        refused.are refused.is_piece refused.answers) held
+    fails_stopped (inr had) = fails_before had
 
     -- the peer's side answers for the error
     fails_given : PeerSideBlames state start_at s up q e → Fails
@@ -315,17 +328,32 @@ module _ {L : Type 0} (state : L → LinkState) (start_at : L → LinkStart)
             let nothing : length p.closing ≡ 0 = ap (λ (l : List HttpTask). length l) none in
             absurd (omega (arith, some, nothing))
 
+    -- a filter stopped a batch, or the check behind one did
+    fails_filter : (left rest : List HttpTask) → q.read ≡ p.batched ++ (left ++ rest)
+        → (before own : List LogEntry) → b.log ≡ s.called ++ (before ++ own)
+        → BatchStops b.of_head b.stand left own → Refuses b.of_head e own
+        → b.stopped ≡ Some (fail.Error e) → p.closing ≡ [] → Fails
+    fails_filter left rest read before own parts stops refuses is unasked =
+        let oh = so_far.down.passed.is_of_head in
+        fails_as
+        (FailsFor.by_batch (in_order None (stopped_passes is)) is unasked b.stand left before own
+        (sym (own_calls s.called (before ++ own) b.log parts))
+        (record { rest = rest; joined = append_assoc p.batched left rest ∙ sym read })
+        (subst (λ (of_head : Bool). BatchStops of_head b.stand left own) oh stops)
+        (subst (λ (of_head : Bool). Refuses of_head e own) oh refuses)) held
+
     -- the side refuses tasks that the peer gave
     fails_tasks : Refused (HookedRefuses link ahead s b) false p q e → Fails
     fails_tasks r = on r.refused
       where
         on : HookedRefuses link ahead s b p r.left e → Fails
-        on (RefusesOver.by_filter before own parts stops refuses is) = fails_stopped is
+        on (RefusesOver.by_filter before own parts stops refuses is) =
+            fails_filter r.left r.rest r.came before own parts stops refuses is (r.unasked refl)
         on (RefusesOver.by_inner came queued made holds own parts makes made_so refuses) =
             fails_made r.left r.rest r.came came queued made holds
             (half_with link ahead s b p so_far.down came queued holds own parts makes) refl own
             parts made_so (r.unasked refl) refuses
-        on (RefusesOver.had_stopped is) = fails_stopped is
+        on (RefusesOver.had_stopped had) = fails_before had
 
     -- the end of the response that was asked for is refused
     fails_unended : (came queued : List HttpTask)
@@ -376,7 +404,7 @@ module _ {L : Type 0} (state : L → LinkState) (start_at : L → LinkStart)
         (HookedCannotEnd link ahead s b) (PeerSideBlames state start_at s up) (hooked_state b) p q e
         → Fails
     fails_here (inl (inl (came, queued, holds, blames))) = fails_client came queued holds blames
-    fails_here (inl (inr is)) = fails_stopped is
+    fails_here (inl (inr stopped)) = fails_stopped stopped
     fails_here (inr (inl blames)) = fails_given blames
     fails_here (inr (inr (inl refused))) = fails_tasks refused
     fails_here (inr (inr (inr unended))) = elim unended.why [
@@ -384,5 +412,5 @@ module _ {L : Type 0} (state : L → LinkState) (start_at : L → LinkStart)
         | inl blames ↦ fails_client over.0 over.1 over.2 blames
         | inr cannot ↦ fails_unended over.0 over.1 over.2 cannot (unended.asked refl)
       ]
-      | inr is ↦ fails_stopped is
+      | inr stopped ↦ fails_stopped stopped
     ]

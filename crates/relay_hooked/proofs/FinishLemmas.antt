@@ -17,18 +17,21 @@ use Rattle.relay_peer.specs.H1Client.{may_keep_client}
 use Rattle.relay_peer.specs.Peer.{AreTasks, IsOnlyFault, IsWriteError, PeerBlames, told_of}
 use Rattle.relay_peer.specs.Peer as peer
 use Rattle.relay_peer.specs.RequestWriting.{Sent, Stands, may_keep_writing, sent_wire, short_request}
-use Rattle.relay_peer.specs.ResponseReading.{keeps_at, may_keep_reading, says}
+use Rattle.relay_peer.specs.ResponseReading.{keeps_at, may_keep_reading}
 use Rattle.relay_peer.specs.ResponseReading as reading
 use Rattle.relay_peer.specs.declared.peer_side.PeerSide.{PeerSide}
 use Rattle.relay_peer.specs.declared.response_reading.ResponsePlace.{ResponsePlace}
 use Rattle.relay_peer.specs.declared.response_reading.ResponsePlace.TheVariants as at
 use Rattle.relay_session.specs.Asked.{request_of}
-use Rattle.relay_session.specs.Reading.{IsWhole, is_body_done}
-use Rattle.relay_session.specs.Response.{IsOpen, has_head, is_over, pending}
+use Rattle.relay_session.specs.Reading.{IsWhole}
+use Rattle.relay_session.specs.Response.{Holds, HoldsOn, IsOpen, has_head, is_over, pending}
 use Rattle.relay_session.specs.TaskWire.{wire}
+use Rattle.relay_session.specs.TaskWire.{Sent as TaskSent}
 use Rattle.relay_session.specs.declared.task_text.Place.TheVariants as place
 use Rattle.relay_session.specs.declared.task_text.Request.{Request}
+use Rattle.relay_session.specs.declared.writing.Outgoing.{Outgoing}
 use Rattle.relay_session.specs.declared.writing.Outgoing.TheVariants as outgoing
+use Rattle.relay_session.specs.declared.writing.Writing.{Writing}
 use Rattle.relay_core.specs.Moves.{EndsLast, Finishes}
 use Rattle.relay_core.specs.Past.{Origin, DownPast, UpPast}
 use Rattle.relay_core.specs.declared.duplex.Duplex.{Duplex}
@@ -53,9 +56,20 @@ use Rattle.relay_core.specs.declared.step.UpKind.{UpKind}
 use Rattle.relay_links.specs.Count.{Rose}
 use Rattle.relay_hooked.proofs.PassedLemmas.{passed_ends}
 use Rattle.relay_hooked.specs.Sides.{Behind, filtering, hooked_core, hooked_state, keeps_link}
-use Rattle.relay_hooked.proofs.HalfLemmas.{hooked_half, one_body, one_ends, own_blames, tasks_came}
+use Rattle.relay_hooked.proofs.HalfLemmas.{hooked_half, own_blames, tasks_came}
 use Rattle.relay_hooked.proofs.OrderLemmas.{attempt_so_far, ends_made, first_batched, order_so_far}
 use Rattle.relay_hooked.proofs.PlaceLemmas.{ends_over, last_in, last_made}
+
+-- what tasks a session holds say whether they close the connection
+held_closes : (response : Writing) (tasks : List HttpTask) (taken : List ℕ)
+    → Holds response tasks taken
+    → response.closes ≡ (wire response.request place.NoHead tasks).closes
+held_closes response tasks taken holds = of response.output holds
+  where
+    of : (output : Outgoing) → HoldsOn response output tasks taken
+        → response.closes ≡ (wire response.request place.NoHead tasks).closes
+    of (outgoing.Open queue) text = sym (ap (λ (w : TaskSent). w.closes) text.wire.is)
+    of (outgoing.Broken fault) text = sym (ap (λ (w : TaskSent). w.closes) text.1.wire.is)
 
 -- what is not awaited is empty
 none_waits : (waits : List ℕ) → not (length waits == 0) ≡ false → waits ≡ []
@@ -145,8 +159,8 @@ module _ {L : Type 0} (state : L → LinkState) (start_at : L → LinkStart)
     -- the tasks that passed the filters are a front of those that were read
     front : IsFrontOf p.batched q.read
     front =
-        first_batched (filtering s b) s link (state up.client.link) (start_at up.client.link) b.ended
-        (hooked_state b) refl
+        first_batched (filtering s b) s link (state up.client.link) (start_at up.client.link)
+        b.ended (hooked_state b) refl
         (attempt_so_far state start_at link ahead s b up duplex p q so_far)
 
     -- the tasks that came
@@ -328,7 +342,8 @@ module _ {L : Type 0} (state : L → LinkState) (start_at : L → LinkStart)
 
     -- and else it was over early
     abbrev early_of : Finishes (hooked_core duplex b up) p q → list_any is_end p.batched ≡ false
-        → EndsEarly (filtering s b) s (passed_by p q) (state up.client.link) (start_at up.client.link)
+        → EndsEarly (filtering s b) s (passed_by p q) (state up.client.link)
+        (start_at up.client.link)
     early_of finishes none = record {
       order = in_order;
       open_still = none;
@@ -369,20 +384,21 @@ module _ {L : Type 0} (state : L → LinkState) (start_at : L → LinkStart)
 
     -- what a finished exchange leaves
     leaves_of : Leaves (filtering s b) s (passed_by p q) (state up.client.link)
-        (start_at up.client.link) in_order ahead (is_body_done b.side.session.reading)
-        (keeps_link duplex up)
+        (start_at up.client.link) in_order ahead b.side.session (keeps_link duplex up)
     leaves_of =
         let c = so_far.down.passed.holds.passed.client in
-        let done = is_body_done b.side.session.reading in
         record {
-          ended = (
-            λ is. one_ends c.body done ∙ is,
-            λ ends. sym (one_ends c.body done) ∙ ends,
-          );
+          ended = (λ is. c.whole is, λ ends. c.ended ends);
           behind = λ is.
-              subst (λ (l : List ℕ). IsWhole (s.ahead ++ p.came) l ahead)
-              (sym (one_body c.body done))
+              subst (λ (l : List ℕ). IsWhole (s.ahead ++ p.came) l ahead) (sym c.joined)
               (c.told_whole is);
+          closes =
+              held_closes b.side.session.writing (so_far.down.passed.queued ++ p.closing) p.written
+              c.response
+              ∙ ap (λ (r : Request).
+              (wire r place.NoHead (so_far.down.passed.queued ++ p.closing)).closes)
+              (answers_own s (inside p so_far.down.passed.came so_far.down.passed.queued) link ahead
+              b.side.session c);
           serves = λ kept. may_serve (and_right (core.may_keep duplex.kind duplex) _ kept);
           faultless = λ kept.
               so_far.up.peer.calm
@@ -450,13 +466,13 @@ module _ {L : Type 0} (state : L → LinkState) (start_at : L → LinkStart)
         → ((r : IsRelayed (filtering s b) s (passed_by p q) (state up.client.link)
         (start_at up.client.link))
         × Leaves (filtering s b) s (passed_by p q) (state up.client.link) (start_at up.client.link)
-        r.order ahead (is_body_done b.side.session.reading) (keeps_link duplex up)
+        r.order ahead b.side.session (keeps_link duplex up)
         × (b.at_first ≡ false
         → Keeps (state up.client.link) (start_at up.client.link) r.order (keeps_link duplex up)))
         ⊎ ((r : EndsEarly (filtering s b) s (passed_by p q) (state up.client.link)
         (start_at up.client.link))
         × Leaves (filtering s b) s (passed_by p q) (state up.client.link) (start_at up.client.link)
-        r.order ahead (is_body_done b.side.session.reading) (keeps_link duplex up))
+        r.order ahead b.side.session (keeps_link duplex up))
     finishes_so finishes = elim (decide (list_any is_end p.batched)) [
       | inl ends ↦ inl (
         relayed_of finishes ends,

@@ -3,7 +3,7 @@
 --   hooked_half   from IsHooked over the client's side: the client's half
 --   peer_half     from IsPeerSide: the upstream's half
 --   own_blames    the peer's side answers for an error by the head that is sent
-use Rattle.std.proofs.Common.{◌≡◌, ℕ, Bool, true, false, List, [], ◌∷◌, ◌++◌, length, drop, refl, sym, ap, subst, ◌∙◌, append-nil, arith, inl, inr, Some, None}
+use Rattle.std.proofs.Common.{◌≡◌, ℕ, Bool, true, List, [], ◌∷◌, ◌++◌, length, drop, refl, sym, ap, subst, ◌∙◌, append-nil, Some, None}
 use Rattle.std.specs.List.{list_any}
 use Rattle.std.proofs.Math.Seq.{drop-append_seam}
 use Rattle.relay_tasks.specs.declared.error.Error.{Error}
@@ -20,16 +20,12 @@ use Rattle.relay_peer.specs.Peer.{AreTasks, IsPeerSide, PeerBlames, told_of}
 use Rattle.relay_peer.specs.declared.peer_side.PeerSide.{PeerSide}
 use Rattle.relay_peer.proofs.FrontLemmas.{front_then}
 use Rattle.relay_peer.proofs.TaskLemmas.{ended_whole}
-use Rattle.relay_session.specs.Reading.{is_body_done}
 use Rattle.relay_session.specs.Response.{is_over}
 use Rattle.relay_session.specs.TaskWire.{wire}
-use Rattle.relay_session.specs.declared.session.HttpSession.{HttpSession}
 use Rattle.relay_session.specs.declared.task_text.Place.TheVariants as place
 use Rattle.relay_session.specs.declared.task_text.Request.{Request}
-use Rattle.relay_core.specs.Moves.{EndsLast}
 use Rattle.relay_core.specs.Past.{Origin, DownPast, UpPast}
 use Rattle.relay_calls.specs.Log.{requests_in}
-use Rattle.relay_sides.specs.Client.{HaveSome, IsClient}
 use Rattle.relay_sides.specs.Filtered.{is_head_request}
 use Rattle.relay_filters.specs.Hooked.{TakesOn, inside}
 use Rattle.relay_filters.specs.Request as request
@@ -43,49 +39,7 @@ use Rattle.relay_hooked.specs.Calls.{calls_behind}
 use Rattle.relay_hooked.specs.Order.{AreSaid}
 use Rattle.relay_hooked.specs.Sides.{Behind, HookedHolds, PeerHolds, PeerSideBlames, filtering}
 
--- ---- the body that came, as one piece
-
--- the bytes of a body so far, and its end, as one piece; none where there are neither
-abbrev pub one_piece : List ℕ → Bool → List HttpTask
-one_piece [] false = []
-one_piece [] true = task.Body None true ∷ []
-one_piece (b ∷ bytes) done = task.Body (Some (b ∷ bytes)) done ∷ []
-
--- it brings these bytes
-pub one_body : (bytes : List ℕ) (done : Bool) → body.body_of (one_piece bytes done) ≡ bytes
-one_body [] true = refl
-one_body [] false = refl
-one_body (b ∷ bytes) done = append-nil (b ∷ bytes)
-
--- it has some, or is an end
-pub one_some : (bytes : List ℕ) (done : Bool) → HaveSome (one_piece bytes done)
-one_some [] true = (inr refl, tt)
-one_some [] false = tt
-one_some (b ∷ bytes) done = (inl (omega arith), tt)
-
--- it is an end exactly where the body has ended
-pub one_ends : (bytes : List ℕ) (done : Bool) → list_any is_end (one_piece bytes done) ≡ done
-one_ends [] true = refl
-one_ends [] false = refl
-one_ends (b ∷ bytes) true = refl
-one_ends (b ∷ bytes) false = refl
-
--- nothing stands behind one task
-last_of_one : (t : HttpTask) → EndsLast (t ∷ [])
-last_of_one t [] behind same ends = absurd (cc)
-last_of_one t (x ∷ []) behind same ends = cc
-last_of_one t (x ∷ y ∷ front) behind same ends = absurd (cc)
-
--- nor behind none
-last_of_none : EndsLast []
-last_of_none [] behind same ends = absurd (cc)
-last_of_none (x ∷ front) behind same ends = absurd (cc)
-
--- so an end is the last of it
-pub one_last : (bytes : List ℕ) (done : Bool) → EndsLast (one_piece bytes done)
-one_last [] true = last_of_one (task.Body None true)
-one_last [] false = last_of_none
-one_last (b ∷ bytes) done = last_of_one (task.Body (Some (b ∷ bytes)) done)
+-- ---- the body that came
 
 -- the bytes of a task are the same for the filters
 bytes_same : (t : HttpTask) → request.bytes_of t ≡ body.bytes_of t
@@ -112,54 +66,6 @@ own_calls called own log parts =
 
 -- ---- the client's half
 
-module _
-    (s : Origin) (p : DownPast) (came queued : List HttpTask) (link : LinkState) (ahead : List ℕ)
-    (session : HttpSession) (c : IsClient s (inside p came queued) link ahead session)
-  where
-    -- the body so far, as one piece
-    abbrev pub body_piece : List HttpTask
-    body_piece = one_piece c.body (is_body_done session.reading)
-
-    -- the client's side holds, where that piece was put
-    abbrev pub with_one : IsClient s (inside p body_piece queued) link ahead session
-    with_one = record {
-      came = c.came;
-      written = c.written;
-      faults = c.faults;
-      head = c.head;
-      framing = c.framing;
-      len = c.len;
-      has = c.has;
-      has_head = c.has_head;
-      own = c.own;
-      answers = c.answers;
-      body = c.body;
-      request = c.request;
-      joined = one_body c.body (is_body_done session.reading);
-      some = one_some c.body (is_body_done session.reading);
-      ended = λ is. sym (one_ends c.body (is_body_done session.reading)) ∙ is;
-      whole = λ done. one_ends c.body (is_body_done session.reading) ∙ done;
-      headed = c.headed;
-      told_whole = c.told_whole;
-      response = c.response;
-      broken = c.broken;
-      tells = c.tells;
-    }
-
-    -- what the filter was given is of that piece, as it was of those that came
-    pub passes_one : (a ended : Bool) (es : List LogEntry) (on : Type 0) (put : List HttpTask)
-        → PassesRequest a ended es on came put → PassesRequest a ended es on body_piece put
-    passes_one a ended es on put r = record {
-      each = r.each;
-      rest = r.rest;
-      read = body_same body_piece ∙ one_body c.body (is_body_done session.reading)
-          ∙ sym (body_same came ∙ c.joined) ∙ r.read;
-      all = r.all;
-      told = λ t. one_ends c.body (is_body_done session.reading) ∙ c.ended (r.told t);
-      left = r.left;
-      is_ended = r.is_ended;
-    }
-
 -- what the side behind filters holds, of which these tasks were queued that the filters made by its
 -- calls, is the client's half
 module _
@@ -185,20 +91,16 @@ module _
           framing = c.framing;
           len = c.len;
           asks = own_request s (inside p h.passed.came h.passed.queued) link ahead session c;
-          pieces = body_piece s p h.passed.came h.passed.queued link ahead session c;
+          pieces = h.passed.came;
           are_pieces =
-              pieces_said s
-              (inside p (body_piece s p h.passed.came h.passed.queued link ahead session c)
-              h.passed.queued) link ahead session
-              (with_one s p h.passed.came h.passed.queued link ahead session c)
-              (one_last c.body (is_body_done session.reading));
+              pieces_said s (inside p h.passed.came h.passed.queued) link ahead session c
+              (h.passed.request refl).ends_last;
+          some = c.some;
           passed =
               subst (λ (es : List LogEntry).
-              PassesRequest b.at_first b.ended (requests_in es) (b.stopped ≡ None)
-              (body_piece s p h.passed.came h.passed.queued link ahead session c) p.put)
-              (own_calls s.called h.passed.own b.log h.passed.parts)
-              (passes_one s p h.passed.came h.passed.queued link ahead session c b.at_first b.ended
-              (requests_in h.passed.own) (b.stopped ≡ None) p.put (h.passed.request refl));
+              PassesRequest b.at_first b.ended (requests_in es) (b.stopped ≡ None) h.passed.came
+              p.put)
+              (own_calls s.called h.passed.own b.log h.passed.parts) (h.passed.request refl);
           queued = queued;
           makes =
               subst (λ (es : List LogEntry).
@@ -268,6 +170,8 @@ module _
               let all = ended_whole method s.asked q.got link.ended q.read client tasks_came ends in
               (all.place, all.whole);
           framed = tasks_came.framed;
+          reading = client;
+          are_tasks = tasks_came;
         }
 
     -- an end among them stands behind a final head

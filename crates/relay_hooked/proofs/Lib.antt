@@ -5,6 +5,7 @@ pub mod OrderLemmas
 pub mod PassedLemmas
 pub mod FinishLemmas
 pub mod FailLemmas
+pub mod MadeLemmas
 pub mod NeutralLemmas
 pub mod StationLemmas
 pub mod SideLemmas
@@ -12,3 +13,4 @@ pub mod TurnLemmas
 pub mod WalkLemmas
 pub mod BeginLemmas
 pub mod CauseLemmas
+pub mod BoundLemmas

@@ -104,7 +104,8 @@ module _
 -- ---- so far
 
 module _ {L : Type 0} (state : L → LinkState) (start_at : L → LinkStart)
-    (link : LinkState) (ahead : List ℕ) (s : Origin) (b : Behind) (up : PeerSide L) (duplex : Duplex) (p : DownPast) (q : UpPast)
+    (link : LinkState) (ahead : List ℕ) (s : Origin) (b : Behind) (up : PeerSide L)
+    (duplex : Duplex) (p : DownPast) (q : UpPast)
     (so_far : GoesSoFar state start_at link ahead s b up duplex p q)
   where
     -- what passed between a client behind filters and a peer is an attempt, by the client's half

@@ -29,13 +29,14 @@ use Rattle.relay_core.specs.declared.duplex.Duplex.{Duplex}
 use Rattle.relay_core.specs.declared.told.Told.{Told}
 use Rattle.relay_calls.specs.Log.{requests_in}
 use Rattle.relay_sides.specs.Client.{AllPass, CannotEnd, ClientBlames, ClientRefuses}
-use Rattle.relay_filters.specs.Hooked.{BlamesOver, HookedPast, InnerPast, PastBy, PastOf, RefusesOver, is_lost, shown_done, state_of_side}
+use Rattle.relay_filters.specs.Hooked.{BlamesOver, HookedPast, PastBy, PastOf, RefusesOver, is_lost, shown_done, state_of_side}
 use Rattle.relay_filters.specs.declared.rested.Rested.{Rested}
 use Rattle.relay_attempt.specs.Attempt.{IsAttempt}
 use Rattle.relay_attempt.specs.Exchange.{AreTold, DownHolds}
 use Rattle.relay_attempt.proofs.AttemptLemmas.{attempt_of, with_halves}
 use Rattle.relay_hooked.specs.Attempt.{HookedHalf, PeerHalf}
-use Rattle.relay_hooked.specs.Exchange.{SideHolds}
+use Rattle.relay_hooked.specs.Calls.{calls_behind}
+use Rattle.relay_hooked.specs.Exchange.{SideBlames, SideCannotEnd, SideHolds, SideRefuses}
 use Rattle.relay_hooked.specs.Head.{behind, core_of, filtering_of, side_state}
 use Rattle.relay_hooked.specs.Laws.{GoesSoFar, passed_by}
 use Rattle.relay_hooked.specs.Order.{IsInOrder, IsInOrderWith}
@@ -125,8 +126,8 @@ module _ {L : Type 0} (state : L → LinkState) (start_at : L → LinkStart) (s 
 
     module _ (up : PeerSide L) (duplex : Duplex) (p : DownPast) (q : UpPast)
         (so_far : SoFar (SideHolds link ahead log s u)
-        (PeerHolds state start_at s up) (PeerSideBlames state start_at s up) (core_of log duplex u up) p
-        q)
+        (PeerHolds state start_at s up) (PeerSideBlames state start_at s up)
+        (core_of log duplex u up) p q)
       where
         -- what passed is an attempt
         abbrev pub attempt_at :
@@ -212,11 +213,13 @@ module _ {L : Type 0} (state : L → LinkState) (start_at : L → LinkStart) (s 
             → GoesSoFar state start_at link ahead s (behind log stand u) up duplex p q
         alive_so_far stand alive =
             subst (λ (lost : Bool).
-            SoFar (HoldsAt lost) (PeerHolds state start_at s up) (PeerSideBlames state start_at s up)
-            (core duplex (state_at lost) (peer.state_of up)) p q) alive so_far
+            SoFar (HoldsAt lost) (PeerHolds state start_at s up)
+            (PeerSideBlames state start_at s up) (core duplex (state_at lost) (peer.state_of up)) p q)
+            alive so_far
 
         -- how both halves finished
-        pub alive_finishes : (stand : Bool) → is_lost u.stopped ≡ false → Finishes (core_of log duplex u up) p q
+        pub alive_finishes : (stand : Bool) → is_lost u.stopped ≡ false
+            → Finishes (core_of log duplex u up) p q
             → Finishes (hooked_core duplex (behind log stand u) up) p q
         alive_finishes stand alive finishes =
             subst (λ (lost : Bool). Finishes (core duplex (state_at lost) (peer.state_of up)) p q)
@@ -224,15 +227,9 @@ module _ {L : Type 0} (state : L → LinkState) (start_at : L → LinkStart) (s 
 
         -- and so does the reason of an error
         pub alive_reason : (stand : Bool) (e : Error) → is_lost u.stopped ≡ false
-            → HasReason
-            (λ r why. BlamesOver (InnerPast u.stopped s link ahead u.inner)
-            (λ i. ClientBlames s i link) u.stopped r why)
-            (λ r left why. RefusesOver (InnerPast u.stopped s link ahead u.inner)
-            (λ i. ClientRefuses s i link u.inner.told) u.of_head u.stood stand u.refused
-            u.stopped s.called log r left why)
-            (λ r why. BlamesOver (InnerPast u.stopped s link ahead u.inner)
-            (λ i x. ClientBlames s i link x ⊎ CannotEnd s i u.inner.told x) u.stopped r why)
-            (PeerSideBlames state start_at s up) (side_state log u) p q e
+            → HasReason (SideBlames link ahead log s u) (SideRefuses link ahead log stand s u)
+            (SideCannotEnd link ahead log s u) (PeerSideBlames state start_at s up)
+            (side_state log u) p q e
             → HasReason (HookedBlames link ahead s (behind log stand u))
             (HookedRefuses link ahead s (behind log stand u))
             (HookedCannotEnd link ahead s (behind log stand u)) (PeerSideBlames state start_at s up)
@@ -241,10 +238,11 @@ module _ {L : Type 0} (state : L → LinkState) (start_at : L → LinkStart) (s 
             subst (λ (lost : Bool).
             HasReason
             (λ r why. BlamesOver (PastOf lost (PastBy s link ahead u.inner) u.inner.session)
-            (λ i. ClientBlames s i link) u.stopped r why)
+            (λ i. ClientBlames s i link) u.stopped u.told (calls_behind s.called log) r why)
             (λ r left why. RefusesOver (PastOf lost (PastBy s link ahead u.inner) u.inner.session)
             (λ i. ClientRefuses s i link u.inner.told) u.of_head u.stood stand u.refused
-            u.stopped s.called log r left why)
+            u.stopped u.told s.called log r left why)
             (λ r why. BlamesOver (PastOf lost (PastBy s link ahead u.inner) u.inner.session)
-            (λ i x. ClientBlames s i link x ⊎ CannotEnd s i u.inner.told x) u.stopped r why)
+            (λ i x. ClientBlames s i link x ⊎ CannotEnd s i u.inner.told x) u.stopped u.told
+            (calls_behind s.called log) r why)
             (PeerSideBlames state start_at s up) (state_at lost) p q e) alive reason

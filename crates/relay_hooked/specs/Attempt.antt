@@ -20,6 +20,7 @@ use Rattle.relay_session.specs.declared.task_text.Place.TheVariants as place
 use Rattle.relay_core.specs.Past.{Origin, DownPast, UpPast}
 use Rattle.relay_core.specs.Pipe.{is_failure}
 use Rattle.relay_calls.specs.Log.{requests_in}
+use Rattle.relay_sides.specs.Client.{HaveSome}
 use Rattle.relay_sides.specs.Filtered.{is_head_request}
 use Rattle.relay_filters.specs.Hooked.{TakesOn}
 use Rattle.relay_filters.specs.Request.{PassesRequest}
@@ -29,10 +30,11 @@ use Rattle.relay_hooked.specs.Calls.{Filtering}
 use Rattle.relay_hooked.specs.Order.{AreSaid}
 
 -- the client's half, over a link with sessions of HTTP/1: its bytes begin with the head of the
--- request, and its pieces are the front of the body behind it. What was put is what the filter of
--- requests left of them by these calls, and what was queued is what the filters of responses made
--- of the tasks that were given; what was written is the front of the text of what was queued and of
--- the ends that were asked for, no failure among them. A response that is done is over
+-- request, and its pieces, as they came, are the front of the body behind it, each with some of it
+-- or its end. What was put is what the filter of requests left of them by these calls, and what
+-- was queued is what the filters of responses made of the tasks that were given; what was written
+-- is the front of the text of what was queued and of the ends that were asked for, no failure among
+-- them. A response that is done is over
 pub record HookedHalf
     (f : Filtering) (o : Origin) (client : LinkState) (ended done : Bool) (p : DownPast)
     : Type 0 where
@@ -45,6 +47,7 @@ pub record HookedHalf
   pub asks : HasRequest (o.ahead ++ p.came) o.head framing len
   pub pieces : List HttpTask
   pub are_pieces : ArePieces framing (drop len (o.ahead ++ p.came)) pieces
+  pub some : HaveSome pieces
   pub passed : PassesRequest f.at_first ended (requests_in f.calls) (f.stopped ≡ None) pieces p.put
   pub queued : List HttpTask
   pub makes : MakesOf (is_head_request o.head.method) f.stood f.calls

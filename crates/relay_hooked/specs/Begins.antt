@@ -21,7 +21,7 @@ use Rattle.relay_sides.specs.Client.{put_again}
 use Rattle.relay_filters.specs.Hooked.{seen_by}
 use Rattle.relay_filters.specs.Request.{Filtered, Refused}
 use Rattle.relay_filters.specs.declared.rested.Rested.{Rested}
-use Rattle.relay_hooked.specs.declared.exchange.Begun.{Begun}
+use Rattle.relay_hooked.specs.declared.exchange.HookedExchange.{HookedExchange}
 use Rattle.relay_hooked.specs.declared.exchange.Unbegun.{Unbegun}
 
 -- what was kept of a body as one piece, with the end of a body that has ended
@@ -77,17 +77,16 @@ module _ {M C : Type 0} (session : Session M) (ctx : C) (client : HttpSession) w
           → session'.seen.log ≡ session.seen.log
           → CannotPut why session' ctx' client'
 
-    -- why an exchange was not begun, and what came back: the head has no framing, and no hook was
-    -- called; or nothing could be put first
-    abbrev pub IsUnbegun : {L : Type 0} → RequestHead → Unbegun M C L → Type 0
-    IsUnbegun head x =
+    -- why an exchange was not begun, what came back, and up to what hooks were called: the head has
+    -- no framing, and no hook was called; or nothing could be put first
+    abbrev pub IsUnbegun : {L : Type 0} → RequestHead → Session M → C → Unbegun L → Type 0
+    IsUnbegun head session' ctx' x =
         ((x.why ≡ fail.Error bad_framing) × (request_framing head ≡ None)
-        × AreSame x.session x.ctx x.client)
-        ⊎ CannotPut x.why x.session x.ctx x.client
+        × AreSame session' ctx' x.client)
+        ⊎ CannotPut x.why session' ctx' x.client
 
--- the exchange was not begun, for that reason, and the log is that one
-abbrev pub IsRefusedFor : {M C L : Type 0} → Result (Begun M C L) (Unbegun M C L) → Fail
-    → List LogEntry → Type 0
-IsRefusedFor {M} {C} {L} result why log =
-    (unbegun : Unbegun M C L) × (result ≡ Err unbegun) × (unbegun.why ≡ why)
-    × (unbegun.session.seen.log ≡ log)
+-- the exchange was not begun, for that reason, and the log is as it was
+abbrev pub IsRefusedFor : {L : Type 0} → Result (HookedExchange L) (Unbegun L) → Fail
+    → List LogEntry → List LogEntry → Type 0
+IsRefusedFor {L} result why log log' =
+    (unbegun : Unbegun L) × (result ≡ Err unbegun) × (unbegun.why ≡ why) × (log' ≡ log)

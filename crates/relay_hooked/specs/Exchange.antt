@@ -1,24 +1,28 @@
 -- An exchange so far behind an application's filters, over an HTTP/1 link to the peer, and what a
 -- turn makes of it.
-use Rattle.std.specs.Prelude.{◌≡◌, ◌⊎◌, ℕ, false, List, Option, Some}
+use Rattle.std.specs.Prelude.{◌≡◌, ◌⊎◌, ℕ, Bool, false, List, Option, Some}
 use Rattle.relay_tasks.specs.declared.error.Error.{Error}
 use Rattle.relay_tasks.specs.declared.error.Fail.TheVariants as fail
 use Rattle.relay_tasks.specs.declared.log.LogEntry.{LogEntry}
+use Rattle.relay_tasks.specs.declared.task.HttpTask.{HttpTask}
 use Rattle.relay_links.specs.Link.{LinkState, LinkStart}
 use Rattle.relay_links.specs.declared.branch.Branch.{Branch}
 use Rattle.relay_session.specs.Asked.{request_of}
-use Rattle.relay_session.specs.Reading.{is_body_done}
 use Rattle.relay_core.specs.Past.{Origin, DownPast, UpPast}
+use Rattle.relay_core.specs.Table.{State}
 use Rattle.relay_core.specs.Uses as uses
 use Rattle.relay_core.specs.declared.step.Step.{Step}
 use Rattle.relay_core.specs.declared.step.Step.TheVariants as step
 use Rattle.relay_exchange.specs.Exchange.{IsSilentLink}
 use Rattle.relay_exchange.specs.Exchange as over
-use Rattle.relay_filters.specs.Hooked.{HookedPast, InnerPast, is_lost}
+use Rattle.relay_sides.specs.Client.{CannotEnd, ClientBlames, ClientRefuses}
+use Rattle.relay_filters.specs.Hooked.{BlamesOver, HookedPast, InnerPast, RefusesOver, is_lost}
+use Rattle.relay_filters.specs.Segments.{InSegments}
 use Rattle.relay_filters.specs.declared.rested.Rested.{Rested}
 use Rattle.relay_attempt.specs.Exchange.{AreTold}
 use Rattle.relay_attempt.specs.Passed.{Passed}
-use Rattle.relay_hooked.specs.Head.{core_of, filtering_of, link_of, may_keep}
+use Rattle.relay_hooked.specs.Calls.{calls_behind}
+use Rattle.relay_hooked.specs.Head.{core_in, filtering_of, link_of, may_keep}
 use Rattle.relay_hooked.specs.Order.{EndsEarly, FailsWith, IsInOrder, IsInOrderWith, IsRelayed, Keeps, Leaves}
 use Rattle.relay_hooked.specs.Sides.{PeerHolds, PeerSideBlames}
 use Rattle.relay_hooked.specs.declared.exchange.HookedExchange.{HookedExchange}
@@ -30,50 +34,85 @@ SideHolds link ahead log s u p =
     HookedPast (InnerPast u.stopped s link ahead u.inner) s.head.method u.inner.session s.called log
     u.of_head u.at_first u.ended false u.refused u.stood u.stopped u.told u.inner.told p
 
+-- it answers for an error, by the log
+abbrev pub SideBlames : LinkState → List ℕ → List LogEntry → Origin → Rested → DownPast → Error
+    → Type 0
+SideBlames link ahead log s u p e =
+    BlamesOver (InnerPast u.stopped s link ahead u.inner) (λ i. ClientBlames s i link) u.stopped
+    u.told (calls_behind s.called log) p e
+
+-- it refuses tasks with an error; whether modules stand
+abbrev pub SideRefuses : LinkState → List ℕ → List LogEntry → Bool → Origin → Rested → DownPast
+    → List HttpTask → Error → Type 0
+SideRefuses link ahead log stand s u p left e =
+    RefusesOver (InnerPast u.stopped s link ahead u.inner)
+    (λ i. ClientRefuses s i link u.inner.told) u.of_head u.stood stand u.refused u.stopped u.told
+    s.called log p left e
+
+-- it cannot end the response, with the error
+abbrev pub SideCannotEnd : LinkState → List ℕ → List LogEntry → Origin → Rested → DownPast → Error
+    → Type 0
+SideCannotEnd link ahead log s u p e =
+    BlamesOver (InnerPast u.stopped s link ahead u.inner)
+    (λ i why. ClientBlames s i link why ⊎ CannotEnd s i u.inner.told why) u.stopped u.told
+    (calls_behind s.called log) p e
+
 -- by the links
 module _ {L : Type 0} (state : L → LinkState) (start_at : L → LinkStart) where
+  -- it is under way between both sides, by the log
+  abbrev pub IsBetween : Origin → LinkState → List ℕ → List LogEntry → HookedExchange L → DownPast
+      → UpPast → Type 0
+  IsBetween s link ahead log x p q =
+      over.IsUnderWay (SideHolds link ahead log s x.down) (PeerHolds state start_at s x.exchange.up)
+      (PeerSideBlames state start_at s x.exchange.up) (core_in log x) p q
+
+  -- a turn between both sides went on to this, from these pasts and that core, by the log; whether
+  -- modules stand
+  abbrev pub TurnsBetween : Origin → LinkState → List ℕ → List LogEntry → Bool → HookedExchange L
+      → DownPast → UpPast → State → Step → Type 0
+  TurnsBetween s link ahead log stand x before up_before was answer =
+      over.Turns (SideHolds link ahead log s x.down) (SideBlames link ahead log s x.down)
+      (SideRefuses link ahead log stand s x.down) (SideCannotEnd link ahead log s x.down)
+      (PeerHolds state start_at s x.exchange.up) (PeerSideBlames state start_at s x.exchange.up)
+      before up_before was (core_in log x) answer
+
   -- the exchange so far, over all that passed, by the log: what was sent and written is in order,
   -- and it is under way between both sides. No hook wanted memory, and the client's side told no
   -- error
   pub record IsUnderWay (s : Origin) (p : Passed) (link : LinkState) (ahead : List ℕ)
       (log : List LogEntry) (x : HookedExchange L) : Type 0 where
-    pub order : IsInOrder (filtering_of s log x.exchange.down) s p (state (link_of x)).ended
-    pub alive : is_lost x.exchange.down.stopped ≡ false
-    pub untold : x.exchange.down.told.errors ≡ 0
+    pub order : IsInOrder (filtering_of s log x.down) s p (state (link_of x)).ended
+    pub alive : is_lost x.down.stopped ≡ false
+    pub untold : x.down.told.errors ≡ 0
     pub down : DownPast
     pub up : UpPast
     pub came : down.came ≡ p.came
     pub written : down.written ≡ p.written
     pub got : up.got ≡ p.got
     pub sent : up.sent ≡ p.sent
-    pub holds : over.IsUnderWay (SideHolds link ahead log s x.exchange.down)
-        (PeerHolds state start_at s x.exchange.up) (PeerSideBlames state start_at s x.exchange.up)
-        (core_of log x.exchange.duplex x.exchange.down x.exchange.up) down up
+    pub holds : IsBetween s link ahead log x down up
 
   -- both directions were relayed, which leaves both links so, and a session that answers the
   -- request
   pub record IsFinished (s : Origin) (p : Passed) (ahead : List ℕ) (log : List LogEntry)
       (x : HookedExchange L) : Type 0 where
-    pub relayed : IsRelayed (filtering_of s log x.exchange.down) s p (state (link_of x))
+    pub relayed : IsRelayed (filtering_of s log x.down) s p (state (link_of x))
         (start_at (link_of x))
-    pub answers : x.exchange.down.inner.session.writing.request ≡ request_of s.head
-    pub leaves : Leaves (filtering_of s log x.exchange.down) s p (state (link_of x))
-        (start_at (link_of x)) relayed.order ahead
-        (is_body_done x.exchange.down.inner.session.reading) (may_keep x)
+    pub answers : x.down.inner.session.writing.request ≡ request_of s.head
+    pub leaves : Leaves (filtering_of s log x.down) s p (state (link_of x))
+        (start_at (link_of x)) relayed.order ahead x.down.inner.session (may_keep x)
     -- where the request had not ended before its first piece
-    pub keeps : x.exchange.down.at_first ≡ false
+    pub keeps : x.down.at_first ≡ false
         → Keeps (state (link_of x)) (start_at (link_of x)) relayed.order (may_keep x)
 
   -- the response was over towards the client before its end was given to the filters, which leaves
   -- both links so, and a session that answers the request
   pub record IsOverEarly (s : Origin) (p : Passed) (ahead : List ℕ) (log : List LogEntry)
       (x : HookedExchange L) : Type 0 where
-    pub early : EndsEarly (filtering_of s log x.exchange.down) s p (state (link_of x))
-        (start_at (link_of x))
-    pub answers : x.exchange.down.inner.session.writing.request ≡ request_of s.head
-    pub leaves : Leaves (filtering_of s log x.exchange.down) s p (state (link_of x))
-        (start_at (link_of x)) early.order ahead
-        (is_body_done x.exchange.down.inner.session.reading) (may_keep x)
+    pub early : EndsEarly (filtering_of s log x.down) s p (state (link_of x)) (start_at (link_of x))
+    pub answers : x.down.inner.session.writing.request ≡ request_of s.head
+    pub leaves : Leaves (filtering_of s log x.down) s p (state (link_of x))
+        (start_at (link_of x)) early.order ahead x.down.inner.session (may_keep x)
 
   -- what a turn made of it, by its answer: it goes on; both directions were relayed, or the
   -- response was over early; or it failed, for a cause. Out of memory is none, but what was sent
@@ -85,13 +124,12 @@ module _ {L : Type 0} (state : L → LinkState) (start_at : L → LinkStart) whe
   ComesTo s p link ahead log x step.Finished =
       IsFinished s p ahead log x ⊎ IsOverEarly s p ahead log x
   ComesTo s p link ahead log x (step.Failed (fail.Error e)) =
-      FailsWith (filtering_of s log x.exchange.down) s p link (state (link_of x))
-      (start_at (link_of x)) x.exchange.down.inner.session e
+      FailsWith (filtering_of s log x.down) s p link (state (link_of x))
+      (start_at (link_of x)) ahead x.down.inner.session e
   ComesTo s p link ahead log x (step.Failed fail.OutOfMemory) =
-      IsInOrder (filtering_of s log x.exchange.down) s p (state (link_of x)).ended
-      ⊎ ((e : Error) × (x.exchange.down.told.errors ≡ 1) × (x.exchange.down.told.last ≡ Some e)
-      × IsInOrderWith (Some e) (filtering_of s log x.exchange.down) s p
-      (state (link_of x)).ended)
+      IsInOrder (filtering_of s log x.down) s p (state (link_of x)).ended
+      ⊎ ((e : Error) × (x.down.told.errors ≡ 1) × (x.down.told.last ≡ Some e)
+      × IsInOrderWith (Some e) (filtering_of s log x.down) s p (state (link_of x)).ended)
 
   -- a turn went on to this
   pub record Turns (s : Origin) (link : LinkState) (ahead : List ℕ) (log : List LogEntry)
@@ -99,6 +137,8 @@ module _ {L : Type 0} (state : L → LinkState) (start_at : L → LinkStart) whe
     pub passed : Passed
     pub told : AreTold state start_at s passed link (state (link_of x)) (start_at (link_of x))
     pub comes_to : ComesTo s passed link ahead log x result
+    -- whatever it came to, the calls since the exchange began stand in order
+    pub calls : InSegments x.down.of_head x.down.stopped (calls_behind s.called log)
 
 -- by the links alone
 module _ {L : Type 0} (state : L → LinkState) where
@@ -110,9 +150,7 @@ module _ {L : Type 0} (state : L → LinkState) where
   -- head, or each branch that can be taken; and neither link changed
   pub record MeetsSilence (before after : LinkState) (log : List LogEntry)
       (old new : HookedExchange L) : Type 0 where
-    pub silent : over.SilentIn new.exchange.stage
-        (core_of log new.exchange.duplex new.exchange.down new.exchange.up) after
-        (state (link_of new))
+    pub silent : over.SilentIn new.exchange.stage (core_in log new) after (state (link_of new))
     pub client_same : after ≡ before
     pub peer_same : state (link_of new) ≡ state (link_of old)
 
@@ -127,6 +165,5 @@ module _ {L : Type 0} (state : L → LinkState) where
   abbrev pub HasMoved : Option Branch → LinkState → LinkState → List LogEntry → List LogEntry
       → HookedExchange L → HookedExchange L → Type 0
   HasMoved branch before after log log' old new =
-      over.HasMoved branch (core_of log old.exchange.duplex old.exchange.down old.exchange.up)
-      (core_of log' new.exchange.duplex new.exchange.down new.exchange.up) before after
+      over.HasMoved branch (core_in log old) (core_in log' new) before after
       (state (link_of old)) (state (link_of new))

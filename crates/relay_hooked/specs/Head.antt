@@ -54,3 +54,7 @@ side_state log u = state_over (state_of_side u.inner) u.ended u.stopped u.was u.
 -- the core of an exchange between these sides
 abbrev pub core_of : {L : Type 0} → List LogEntry → Duplex → Rested → PeerSide L → State
 core_of log duplex u up = core duplex (side_state log u) (peer.state_of up)
+
+-- the core of an exchange, by the log
+abbrev pub core_in : {L : Type 0} → List LogEntry → HookedExchange L → State
+core_in log x = core_of log x.exchange.duplex x.down x.exchange.up

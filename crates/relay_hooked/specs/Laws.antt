@@ -2,7 +2,6 @@
 use Rattle.std.specs.Prelude.{◌≡◌, ℕ, false, List, ◌⊎◌}
 use Rattle.relay_tasks.specs.declared.error.Error.{Error}
 use Rattle.relay_links.specs.Link.{LinkState, LinkStart}
-use Rattle.relay_session.specs.Reading.{is_body_done}
 use Rattle.relay_peer.specs.declared.peer_side.PeerSide.{PeerSide}
 use Rattle.relay_core.specs.Moves.{Finishes, HasReason, SoFar}
 use Rattle.relay_core.specs.Past.{Origin, DownPast, UpPast}
@@ -57,11 +56,11 @@ module _ {L : Type 0} (state : L → LinkState) (start_at : L → LinkStart) whe
       → HasReason (HookedBlames link ahead s b) (HookedRefuses link ahead s b)
       (HookedCannotEnd link ahead s b) (PeerSideBlames state start_at s up) (hooked_state b) p q e
       → FailsWith (filtering s b) s (passed_by p q) link (state up.client.link)
-      (start_at up.client.link) b.side.session e
+      (start_at up.client.link) ahead b.side.session e
 
   -- what finished was relayed, or over towards the client early, where the side behind filters told
-  -- no error; and what that leaves. Where the
-  -- request had not ended before its first piece, a peer's link that may serve another is kept
+  -- no error; and what that leaves. Where the request had not ended before its first piece, a link
+  -- of the peer that may serve another is kept
   abbrev pub IsFinishing : Type 0
   IsFinishing = (link : LinkState) (ahead : List ℕ) (s : Origin) (b : Behind) (up : PeerSide L)
       (duplex : Duplex) (p : DownPast) (q : UpPast)
@@ -70,10 +69,10 @@ module _ {L : Type 0} (state : L → LinkState) (start_at : L → LinkStart) whe
       → ((r : IsRelayed (filtering s b) s (passed_by p q) (state up.client.link)
       (start_at up.client.link))
       × Leaves (filtering s b) s (passed_by p q) (state up.client.link) (start_at up.client.link)
-      r.order ahead (is_body_done b.side.session.reading) (keeps_link duplex up)
+      r.order ahead b.side.session (keeps_link duplex up)
       × (b.at_first ≡ false
       → Keeps (state up.client.link) (start_at up.client.link) r.order (keeps_link duplex up)))
       ⊎ ((r : EndsEarly (filtering s b) s (passed_by p q) (state up.client.link)
       (start_at up.client.link))
       × Leaves (filtering s b) s (passed_by p q) (state up.client.link) (start_at up.client.link)
-      r.order ahead (is_body_done b.side.session.reading) (keeps_link duplex up))
+      r.order ahead b.side.session (keeps_link duplex up))

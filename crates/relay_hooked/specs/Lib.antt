@@ -8,3 +8,4 @@ pub mod Stations
 pub mod Head
 pub mod Begins
 pub mod Exchange
+pub mod Bound

@@ -24,9 +24,10 @@ use Rattle.relay_h1.specs.declared.framing.Framing.{Framing}
 use Rattle.relay_peer.specs.RequestWriting.{body_framing, sent_wire}
 use Rattle.relay_peer.specs.ResponseReading.{IsReadWhole, untold, says}
 use Rattle.relay_peer.specs.Body.{IsFrontOf, body_of, sent_as}
-use Rattle.relay_peer.specs.Peer.{told_of, EndFramed, Follow, IsOnlyFault, IsWriteError, PeerBlames}
+use Rattle.relay_peer.specs.Peer.{told_of, AreTasks, EndFramed, Follow, IsOnlyFault, IsWriteError, PeerBlames}
+use Rattle.relay_peer.specs.declared.response_reading.ResponseReading.{ResponseReading}
 use Rattle.relay_session.specs.Asked.{request_of}
-use Rattle.relay_session.specs.Reading.{IsWhole}
+use Rattle.relay_session.specs.Reading.{IsWhole, is_body_done}
 use Rattle.relay_session.specs.Response.{Holds, has_head, is_over}
 use Rattle.relay_session.specs.TaskWire.{Sent, first_refusal, refusal, wire}
 use Rattle.relay_session.specs.declared.task_text.Place.TheVariants as place
@@ -35,12 +36,12 @@ use Rattle.relay_session.specs.declared.writing.Outgoing.TheVariants as outgoing
 use Rattle.relay_core.specs.Moves.{EndsLast}
 use Rattle.relay_core.specs.Past.{Origin, DownPast, UpPast}
 use Rattle.relay_calls.specs.Log.{requests_in}
-use Rattle.relay_sides.specs.Client.{ClientBlames, FailsWrite}
+use Rattle.relay_sides.specs.Client.{ClientBlames, FailsWrite, IsClient}
 use Rattle.relay_sides.specs.Filtered.{is_head_request}
 use Rattle.relay_filters.specs.Chain.{Refuses}
 use Rattle.relay_filters.specs.Hooked.{TakesOn}
-use Rattle.relay_filters.specs.Request.{PassesRequest, has_piece, takes_away}
-use Rattle.relay_filters.specs.Response.{MakesOf, WasMade}
+use Rattle.relay_filters.specs.Request.{PassesRequest, PieceCall, has_piece, takes_away}
+use Rattle.relay_filters.specs.Response.{BatchStops, MakesOf, WasMade}
 use Rattle.relay_attempt.specs.Order.{ArePieces, Asks}
 use Rattle.relay_attempt.specs.Passed.{Passed, asked}
 use Rattle.relay_hooked.specs.Calls.{Filtering}
@@ -49,7 +50,8 @@ use Rattle.relay_hooked.specs.Calls.{Filtering}
 
 -- these tasks are the response that the bytes say, as the peer gave it: its heads in order, and the
 -- first bytes of its body; an end among them is the last of them, and the response's, and comes
--- with a piece where the body has a length, and alone where it has none
+-- with a piece where the body has a length, and alone where it has none. A reading gave them of
+-- these bytes, and has come to the end where one is among them
 pub record AreSaid
     (method : List ℕ) (upgrade closed : Bool) (got : List ℕ) (tasks : List HttpTask) : Type 0 where
   pub follow : Follow untold tasks
@@ -65,6 +67,8 @@ pub record AreSaid
       → (n : ℕ) × Tasks method upgrade got closed (says (told_of tasks) (ended n))
   pub framed : (head : ResponseHead) → (told_of tasks).final ≡ Some head
       → EndFramed method upgrade got (told_of tasks).informed head tasks
+  pub reading : ResponseReading
+  pub are_tasks : AreTasks method upgrade closed got tasks reading
 
 -- ---- both
 
@@ -153,11 +157,12 @@ up_past {p = p} order lost = record {
 }
 
 -- why an exchange failed with that error: the client's side answers for it, or the peer's side
--- does; a filter, or the check behind one, stopped it, for what the last call answered or left; or
--- the client's writer refuses with it what the filters made: of a whole batch, behind what was
--- queued, the first task that is refused; or the last task that was queued, which ends short, and
--- whose end alone was not; or the end that was asked for behind an end among these, where one of
--- them is refused so, or none of them is a final head
+-- does; the last call is one of the filter of requests, which answered it; a batch of what the peer
+-- gave, behind what was queued, was stopped by its last calls, for what the last of them answered
+-- or left; or the client's writer refuses with it what the filters made: of a whole batch, behind
+-- what was queued, the first task that is refused; or the last task that was queued, which ends
+-- short, and whose end alone was not; or the end that was asked for behind an end among these,
+-- where one of them is refused so, or none of them is a final head
 pub data FailsFor
     (f : Filtering) (s : Origin) (p : Passed) (client link : LinkState) (start : LinkStart)
     (e : Error) : Type 0 where
@@ -166,8 +171,14 @@ pub data FailsFor
   by_peer : (order : IsInOrder f s p link.ended) (lost : Bool)
       → PeerBlames start link s.sent s.asked (up_past order lost) e
       → FailsFor f s p client link start e
-  by_filter : (order : IsInOrder f s p link.ended) → f.stopped ≡ Some (fail.Error e)
-      → Refuses (is_head_request s.head.method) e f.calls → FailsFor f s p client link start e
+  by_piece : (order : IsInOrder f s p link.ended) → f.stopped ≡ Some (fail.Error e)
+      → (front : List LogEntry) (last : LogEntry) → f.calls ≡ front ++ last ∷ []
+      → PieceCall last → last.error ≡ Some e → FailsFor f s p client link start e
+  by_batch : (order : IsInOrder f s p link.ended) → f.stopped ≡ Some (fail.Error e)
+      → order.closing ≡ [] → (stand : Bool) (batch : List HttpTask) (before own : List LogEntry)
+      → f.calls ≡ before ++ own → IsFrontOf (order.batched ++ batch) order.read
+      → BatchStops (is_head_request s.head.method) stand batch own
+      → Refuses (is_head_request s.head.method) e own → FailsFor f s p client link start e
   by_writer : (order : IsInOrder f s p link.ended) (stand : Bool) (batch made : List HttpTask)
       → order.closing ≡ [] → IsFrontOf (order.batched ++ batch) order.read
       → WasMade (is_head_request s.head.method) stand f.calls batch made
@@ -189,7 +200,9 @@ abbrev pub refused_of : {f : Filtering} {s : Origin} {p : Passed} {client link :
     {start : LinkStart} {e : Error} → FailsFor f s p client link start e → Option Error
 refused_of (FailsFor.by_client order blames) = None
 refused_of (FailsFor.by_peer order lost blames) = None
-refused_of (FailsFor.by_filter order stopped refuses) = None
+refused_of (FailsFor.by_piece order stopped front last are call answered) = None
+refused_of (FailsFor.by_batch order stopped unasked stand batch before own are read stops refuses) =
+    None
 refused_of (FailsFor.by_writer order stand batch made unasked read made_so refused) = None
 refused_of {e = e} (FailsFor.by_cut order front at unasked is passes) = Some e
 refused_of (FailsFor.by_end refused order ends why cannot) = refused
@@ -200,22 +213,28 @@ abbrev pub order_of : {f : Filtering} {s : Origin} {p : Passed} {client link : L
     → IsInOrderWith (refused_of why) f s p link.ended
 order_of (FailsFor.by_client order blames) = order
 order_of (FailsFor.by_peer order lost blames) = order
-order_of (FailsFor.by_filter order stopped refuses) = order
+order_of (FailsFor.by_piece order stopped front last are call answered) = order
+order_of (FailsFor.by_batch order stopped unasked stand batch before own are read stops refuses) =
+    order
 order_of (FailsFor.by_writer order stand batch made unasked read made_so refused) = order
 order_of (FailsFor.by_cut order front at unasked is passes) = order
 order_of (FailsFor.by_end refused order ends why cannot) = order
 
 -- why it failed, and the session that this leaves: it answers the request, with the tasks that were
--- queued, of whose text so much was written; and where it keeps the fault of a write, the client's
--- link has answered that since the request began
+-- queued, of whose text so much was written; it has read so far; and where it keeps the fault of a
+-- write, the client's link has answered that since the request began
 pub record FailsWith
-    (f : Filtering) (s : Origin) (p : Passed) (client link : LinkState) (start : LinkStart)
-    (session : HttpSession) (e : Error) : Type 0 where
-  pub why : FailsFor f s p client link start e
+    (f : Filtering) (s : Origin) (p : Passed) (client_link link : LinkState) (start : LinkStart)
+    (ahead : List ℕ) (session : HttpSession) (e : Error) : Type 0 where
+  pub why : FailsFor f s p client_link link start e
   pub answers : session.writing.request ≡ request_of s.head
   pub holds : Holds session.writing ((order_of why).queued ++ (order_of why).closing) p.written
   pub broken : (fault : Fault) → session.writing.output ≡ outgoing.Broken fault
-      → FailsWrite s client fault
+      → FailsWrite s client_link fault
+  -- of the client's side itself
+  pub down : DownPast
+  pub client : IsClient s down client_link ahead session
+  pub came : down.came ≡ p.came
 
 -- ---- what finishes
 
@@ -287,13 +306,17 @@ pub record MayServe (s : Origin) (p : Passed) (closed : Bool) (read : List HttpT
   pub asks : closes s.sent.fields ≡ false
   pub response : IsReadWhole s.sent.method s.asked closed p.got (told_of read)
 
--- what a finished exchange leaves: whether the client's own request has ended, the bytes of the
--- client behind it, and whether the peer's link may be kept, of which no call failed then
+-- what a finished exchange leaves: a session that says whether the client's own request has ended,
+-- and whether the response that was written closes the connection; the bytes of the client behind
+-- the request; and whether the peer's link may be kept, of which no call failed then
 pub record Leaves
     (f : Filtering) (s : Origin) (p : Passed) (link : LinkState) (start : LinkStart)
-    (order : IsInOrder f s p link.ended) (ahead : List ℕ) (done keeps : Bool) : Type 0 where
-  pub ended : IsTrue done ↔ (list_any is_end order.came ≡ true)
-  pub behind : done ≡ true → IsWhole (asked s p) (body_of order.came) ahead
+    (order : IsInOrder f s p link.ended) (ahead : List ℕ) (session : HttpSession) (keeps : Bool)
+    : Type 0 where
+  pub ended : IsTrue (is_body_done session.reading) ↔ (list_any is_end order.came ≡ true)
+  pub behind : is_body_done session.reading ≡ true
+      → IsWhole (asked s p) (body_of order.came) ahead
+  pub closes : session.writing.closes ≡ (text_of order).closes
   pub serves : keeps ≡ true → MayServe s p link.ended order.read
   pub faultless : keeps ≡ true → link.faults ≡ start.faults
 

@@ -69,20 +69,22 @@ module _ (link : LinkState) (ahead : List ℕ) (s : Origin) (b : Behind) where
   -- it answers for the error
   abbrev pub HookedBlames : DownPast → Error → Type 0
   HookedBlames p e =
-      BlamesOver (DownHolds link ahead b.side s) (λ r why. ClientBlames s r link why) b.stopped p e
+      BlamesOver (DownHolds link ahead b.side s) (λ r why. ClientBlames s r link why) b.stopped
+      b.told (calls_behind s.called b.log) p e
 
   -- it refuses these tasks with the error
   abbrev pub HookedRefuses : DownPast → List HttpTask → Error → Type 0
   HookedRefuses p left e =
       RefusesOver (DownHolds link ahead b.side s)
       (λ r tasks why. ClientRefuses s r link b.side.told tasks why) b.of_head b.stood b.stand
-      b.refused b.stopped s.called b.log p left e
+      b.refused b.stopped b.told s.called b.log p left e
 
   -- it cannot end the response, with the error
   abbrev pub HookedCannotEnd : DownPast → Error → Type 0
   HookedCannotEnd p e =
       BlamesOver (DownHolds link ahead b.side s)
-      (λ r why. ClientBlames s r link why ⊎ CannotEnd s r b.side.told why) b.stopped p e
+      (λ r why. ClientBlames s r link why ⊎ CannotEnd s r b.side.told why) b.stopped b.told
+      (calls_behind s.called b.log) p e
 
 -- it told no error, or this one alone
 abbrev pub TellsAlone : Behind → Error → Type 0

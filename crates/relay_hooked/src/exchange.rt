@@ -9,22 +9,25 @@ ghost use Rattle.relay_h1.specs.Framing.{request_framing};
 ghost use Rattle.relay_h1.specs.Verdict.{refused_from};
 ghost use Rattle.relay_core.specs.Asked.{WaitRose};
 ghost use Rattle.relay_core.specs.Causes.{says_failed};
-ghost use Rattle.relay_core.specs.Past.{Origin};
+ghost use Rattle.relay_core.specs.Past.{DownPast, Origin, UpPast};
 ghost use Rattle.relay_core.specs.Piece.{put_of, task_put_of};
 ghost use Rattle.relay_session.specs.Reading.{head_of};
 ghost use Rattle.relay_sides.specs.Client.{BeginsBehind, begun_past, put_again};
 ghost use Rattle.relay_sides.specs.Filtered.{is_head_request};
 ghost use Rattle.relay_sides.specs.Lent.{SameButHead};
 ghost use Rattle.relay_calls.specs.Log.{IsAllowed, requests_in};
+ghost use Rattle.relay_exchange.specs.declared.exchange.Stage.TheVariants as stage;
+ghost use Rattle.relay_exchange.specs.Exchange.{TellsOn};
 ghost use Rattle.relay_filters.specs.Delay.{delays_of};
-ghost use Rattle.relay_filters.specs.Hooked.{Walks, is_lost, seen_by, stood_head};
+ghost use Rattle.relay_filters.specs.Hooked.{Lasts, SameNames, Walks, is_lost, seen_by, stays_of, stood_head};
 ghost use Rattle.relay_filters.specs.Response.{SomeAllow};
 ghost use Rattle.relay_attempt.specs.Attempt.{IsAttempt};
 ghost use Rattle.relay_attempt.specs.Passed.{Passed};
 ghost use Rattle.relay_hooked.specs.Attempt.{HookedHalf, PeerHalf};
 ghost use Rattle.relay_hooked.specs.Begins.{CallsOnce, CannotPut, IsBegun, IsRefusedFor, IsUnbegun, kept_piece};
-ghost use Rattle.relay_hooked.specs.Exchange.{Asks, HasMoved, IsSilent, IsUnderWay, MeetsSilence, SideHolds, Turns};
-ghost use Rattle.relay_hooked.specs.Head.{filtering_of, link_of, may_keep, side_state};
+ghost use Rattle.relay_hooked.specs.Bound.{CountsOn, HasCounted};
+ghost use Rattle.relay_hooked.specs.Exchange.{Asks, HasMoved, IsBetween, IsSilent, IsUnderWay, MeetsSilence, SideHolds, Turns, TurnsBetween};
+ghost use Rattle.relay_hooked.specs.Head.{core_in, filtering_of, link_of, may_keep, side_state};
 
 use relay_core::{Piece, Step};
 use relay_exchange::{Exchange, Turn};
@@ -42,60 +45,16 @@ use std::alloc::Global;
 /// context.
 #[derive(Drop)]
 pub struct HookedExchange<L> {
-    pub(crate) exchange: Exchange<Rested, PeerSide<L>>,
+    // The rest of the client's side, which has the client's session.
+    pub(crate) down: Rested,
+    pub(crate) exchange: Exchange<PeerSide<L>>,
 }
 
-/// An exchange that was begun, and the session and the context as its first call left them.
-pub struct Begun<M, C, L> {
-    pub exchange: HookedExchange<L>,
-    pub session: Session<M>,
-    pub ctx: C,
-}
-
-/// An exchange behind a turn, the session and the context as hooks left them, and what the turn came
-/// to.
-pub struct Turned<M, C, L> {
-    pub exchange: HookedExchange<L>,
-    pub session: Session<M>,
-    pub ctx: C,
-    pub turn: Turn,
-}
-
-/// An exchange that was not begun: all that it was to hold, and why.
-pub struct Unbegun<M, C, L> {
-    pub session: Session<M>,
-    pub ctx: C,
+/// An exchange that was not begun: the client's session and the link, and why.
+pub struct Unbegun<L> {
     pub client: HttpSession,
     pub link: L,
     pub why: Fail,
-}
-
-impl<M, C> Unbegun<M, C, ()> {
-    /// The same with that link.
-    fn with_link<L>(self, link: L) -> Unbegun<M, C, L>
-        ensures { result ≡ record {
-          session = self.session;
-          ctx = self.ctx;
-          client = self.client;
-          link = link;
-          why = self.why;
-        } }
-    {
-        let Unbegun {
-            session,
-            ctx,
-            client,
-            link: (),
-            why,
-        } = self;
-        Unbegun {
-            session,
-            ctx,
-            client,
-            link,
-            why,
-        }
-    }
 }
 
 /// An exchange for the client's request behind that application, over that link, which was just
@@ -108,48 +67,46 @@ impl<M, C> Unbegun<M, C, ()> {
 ///
 /// `InvalidHTTPHeader` of the source `Internal`, about `BadFraming`: exactly where
 /// `request_framing` refuses the head, before any call. Else the error of the filter, whose call
-/// stands in the log; or memory was wanted. Then all but the head comes back, as hooks left it.
+/// stands in the log; or memory was wanted. Then the client's session, as hooks left it, and the
+/// link come back.
 pub fn begin<SV: ProxyHttp, L: ByteLink, F: Front>(
     app: &SV,
     alloc: Global,
-    session: Session<SV::Modules>,
-    ctx: SV::CTX,
+    session: &mut Session<SV::Modules>,
+    ctx: &mut SV::CTX,
     client: HttpSession,
     link: L,
     head: RequestHeader,
-) -> std::result::Result<Begun<SV::Modules, SV::CTX, L>, Unbegun<SV::Modules, SV::CTX, L>>
-    ensures begins { IfOk result (λ b. (front : F) (s : Origin) (came : List ℕ) (reused : Bool)
-        → head ≡ s.sent → s.asked ≡ false → s.called ≡ session.seen.log
+) -> std::result::Result<HookedExchange<L>, Unbegun<L>>
+    ensures begins { IfOk result (λ x. (front : F) (s : Origin) (came : List ℕ) (reused : Bool)
+        → head ≡ s.sent → s.asked ≡ false → s.called ≡ session.old.seen.log
         → BeginsBehind s came (F.state front) (F.ahead front) client
         → ((own : RequestHead) → head_of client.reading ≡ Some own
         → is_head_request own.method ≡ is_head_request s.head.method)
         → IsHandedOut (L.state link) (L.start link) reused → s.reused ≡ reused
         → IsUnderWay L.state L.start s
         (record { came = came; written = []; got = []; sent = [] }) (F.state front)
-        (F.ahead front) b.session.seen.log b.exchange) }
+        (F.ahead front) session.new.seen.log x) }
     // The only call is that of the filter of requests with what is put again; where nothing is,
     // there is none, and what hooks are shown is as it was.
-    ensures calls { IfOk result (λ b. CallsOnce session ctx client (SV.allows app.now)
-        (SV.mark_of app.now) b.session b.ctx b.exchange.exchange.down.inner.session) }
-    ensures once { IfOk result (λ b. length b.session.seen.log
-        ≡ length session.seen.log + length (put_again client)) }
-    ensures client { IfOk result (λ b.
-        SameButHead client b.exchange.exchange.down.inner.session) }
-    ensures over { IfOk result (λ b. link_of b.exchange ≡ link) }
-    ensures at_first { IfOk result (λ b. b.exchange.exchange.down.at_first ≡ false) }
-    ensures alive { IfOk result (λ b. is_lost b.exchange.exchange.down.stopped ≡ false) }
+    ensures calls { IfOk result (λ x. CallsOnce session.old ctx.old client (SV.allows app.now)
+        (SV.mark_of app.now) session.new ctx.new x.down.inner.session) }
+    ensures once { IfOk result (λ x. length session.new.seen.log
+        ≡ length session.old.seen.log + length (put_again client)) }
+    ensures client { IfOk result (λ x. SameButHead client x.down.inner.session) }
+    ensures over { IfOk result (λ x. link_of x ≡ link) }
+    ensures at_first { IfOk result (λ x. x.down.at_first ≡ false) }
+    ensures alive { IfOk result (λ x. is_lost x.down.stopped ≡ false) }
     ensures link_back { IfErr result (λ unbegun. unbegun.link ≡ link) }
     ensures refused { IsRefusedFor result
-        (Fail.Error (refused_from ErrorSource.Internal Context.BadFraming)) session.seen.log
-        ↔ (request_framing head ≡ None) }
-    ensures causes { IfErr result (IsUnbegun session ctx client (SV.allows app.now)
-        (SV.mark_of app.now) head) }
+        (Fail.Error (refused_from ErrorSource.Internal Context.BadFraming)) session.old.seen.log
+        session.new.seen.log ↔ (request_framing head ≡ None) }
+    ensures causes { IfErr result (IsUnbegun session.old ctx.old client (SV.allows app.now)
+        (SV.mark_of app.now) head session.new ctx.new) }
 {
     let mut peer = PeerSide::new(alloc, link);
     if let Err(why) = peer.write_request_header(head) {
         return Err(Unbegun {
-            session,
-            ctx,
             client,
             link: peer.into_link(),
             why,
@@ -157,126 +114,115 @@ pub fn begin<SV: ProxyHttp, L: ByteLink, F: Front>(
     }
     let body_done = client.is_body_done();
     match put_first::<SV, F>(app, alloc, session, ctx, client) {
-        Ok(
-            Put {
-                down,
-                piece,
-                session,
-                ctx,
-            },
-        ) => {
-            let exchange = Exchange::begin(alloc, down, body_done, peer, Some(piece));
-            Ok(Begun {
-                exchange: HookedExchange { exchange },
-                session,
-                ctx,
+        Ok(Put { down, piece }) => {
+            let exchange = Exchange::begin(alloc, body_done, peer, Some(piece));
+            Ok(HookedExchange { down, exchange })
+        }
+        Err(Unput { client, why }) => {
+            Err(Unbegun {
+                client,
+                link: peer.into_link(),
+                why,
             })
         }
-        Err(unput) => Err(unput.with_link(peer.into_link())),
-    }
-}
-
-/// One turn behind that application, as in `Exchange::turn`: one write of the request's head, or
-/// one branch of the duplex. The application is that of all turns.
-///
-/// `Finished`: the response was written whole, and the request was sent whole, or the peer took
-/// no more of it, or it ended short; or the response was over towards the client before its end
-/// was given to the filters. `Failed` with an error says why one of both failed: nothing more is
-/// written or sent from then on. Where memory was wanted in a hook the turn is out of memory.
-/// After `Finished` and `Failed` no turn is to follow.
-pub fn turn<SV: ProxyHttp, L: ByteLink, F: Front, H: Schedule>(
-    under_way: HookedExchange<L>,
-    app: &SV,
-    session: Session<SV::Modules>,
-    ctx: SV::CTX,
-    client: &mut F,
-    schedule: &mut H,
-) -> Turned<SV::Modules, SV::CTX, L>
-    ensures goes { (s : Origin) (p : Passed)
-        → IsUnderWay L.state L.start s p (F.state client.old) (F.ahead client.old)
-        session.seen.log under_way
-        → Turns L.state L.start s (F.state client.new) (F.ahead client.new)
-        result.session.seen.log result.exchange result.turn.step }
-    // What passed is an attempt: each side was given the front of what the other put.
-    ensures attempt { (s : Origin) (p : Passed)
-        → IsUnderWay L.state L.start s p (F.state client.old) (F.ahead client.old)
-        session.seen.log under_way
-        → IsAttempt (HookedHalf (filtering_of s result.session.seen.log result.exchange.exchange.down)
-        s (F.state client.new) result.exchange.exchange.down.ended
-        result.exchange.exchange.down.inner.done)
-        (PeerHalf s (L.start (link_of result.exchange)) (L.state (link_of result.exchange)))
-        (side_state result.session.seen.log result.exchange.exchange.down) }
-    // The calls of the turn stand in the log behind those before, each of them allowed, and lead
-    // from the session and the context as they were to both as they are.
-    ensures walks { Walks (IsAllowed (SV.allows app.now) (SomeAllow SV.Modules.allows))
-        (is_lost under_way.exchange.down.stopped) (is_lost result.exchange.exchange.down.stopped)
-        (seen_by session.seen under_way.exchange.down.inner.session) (SV.mark_of app.now ctx)
-        (seen_by result.session.seen result.exchange.exchange.down.inner.session)
-        (SV.mark_of app.now result.ctx) }
-    // It waits only where a link answered so in this turn.
-    ensures waits { result.turn.step ≡ Step.Waited Pause.NotReady
-        → WaitRose (F.state client.old) (F.state client.new) (L.state (link_of under_way))
-        (L.state (link_of result.exchange)) }
-    ensures silent { result.turn.step ≡ Step.Waited Pause.Silent
-        → IsSilent L.state (F.state client.new) result.exchange }
-    // In silence all that can be done asks a link that is silent on it, and neither link
-    // changed.
-    ensures quiet { result.turn.step ≡ Step.Waited Pause.Silent
-        → MeetsSilence L.state (F.state client.old) (F.state client.new) result.session.seen.log
-        under_way result.exchange }
-    // A turn asks one link once, or none. One that moved asked the link of its branch, or it
-    // put a task into a pipe, took some out of one, brought an end, or called the filter of
-    // requests.
-    ensures asks { Asks L.state result.turn.step (F.state client.old) (F.state client.new) under_way
-        result.exchange }
-    ensures moves { (s : Origin) (p : Passed)
-        → IsUnderWay L.state L.start s p (F.state client.old) (F.ahead client.old)
-        session.seen.log under_way
-        → result.turn.step ≡ Step.Moved
-        → HasMoved L.state result.turn.branch (F.state client.old) (F.state client.new)
-        session.seen.log result.session.seen.log under_way result.exchange }
-    // A turn that does not fail takes no call of the filter of requests back.
-    ensures counts { says_failed result.turn.step ≡ false
-        → length (requests_in session.seen.log) ≤ length (requests_in result.session.seen.log) }
-    // A turn that does not fail leaves the count of the client's faults, and a client's session
-    // that no hook may have left as anything.
-    ensures calm { says_failed result.turn.step ≡ false
-        → (F.state client.new).faults ≡ (F.state client.old).faults }
-    ensures alive { says_failed result.turn.step ≡ false
-        → is_lost result.exchange.exchange.down.stopped ≡ false }
-    ensures client_start { F.start client.new ≡ F.start client.old }
-    ensures peer_start { L.start (link_of result.exchange) ≡ L.start (link_of under_way) }
-    // Nothing else takes the place of what it began with: the request had ended before its first
-    // call or not, and there is a head.
-    ensures at_first { result.exchange.exchange.down.at_first ≡ under_way.exchange.down.at_first }
-    ensures head { stood_head (is_lost result.exchange.exchange.down.stopped)
-        result.exchange.exchange.down.inner.session
-        ≡ stood_head (is_lost under_way.exchange.down.stopped) under_way.exchange.down.inner.session }
-{
-    let HookedExchange { exchange } = under_way;
-    let mut held = with_app(exchange, app, session, ctx);
-    let went = held.turn(client, schedule);
-    let Held {
-        exchange,
-        session,
-        ctx,
-    } = without_app(held);
-    let turn = settled(&exchange, went);
-    Turned {
-        exchange: HookedExchange { exchange },
-        session,
-        ctx,
-        turn,
     }
 }
 
 impl<L: ByteLink> HookedExchange<L> {
+    /// One turn behind that application, as in `Exchange::turn`: one write of the request's head,
+    /// or one branch of the duplex. The application is that of all turns, and so are the session
+    /// and the context that hooks are shown.
+    ///
+    /// `Finished`: the response was written whole, and the request was sent whole, or the peer took
+    /// no more of it, or it ended short; or the response was over towards the client before its end
+    /// was given to the filters. `Failed` with an error says why one of both failed: nothing more
+    /// is written or sent from then on. Where memory was wanted in a hook the turn is out of
+    /// memory. After `Finished` and `Failed` no turn is to follow.
+    pub fn turn<SV: ProxyHttp, F: Front, H: Schedule>(
+        &mut self,
+        app: &SV,
+        session: &mut Session<SV::Modules>,
+        ctx: &mut SV::CTX,
+        client: &mut F,
+        schedule: &mut H,
+    ) -> Turn
+        ensures goes { (s : Origin) (p : Passed)
+            → IsUnderWay L.state L.start s p (F.state client.old) (F.ahead client.old)
+            session.old.seen.log self.old
+            → Turns L.state L.start s (F.state client.new) (F.ahead client.new)
+            session.new.seen.log self.new result.step }
+        // What passed is an attempt: each side was given the front of what the other put.
+        ensures attempt { (s : Origin) (p : Passed)
+            → IsUnderWay L.state L.start s p (F.state client.old) (F.ahead client.old)
+            session.old.seen.log self.old
+            → IsAttempt (HookedHalf (filtering_of s session.new.seen.log self.new.down) s
+            (F.state client.new) self.new.down.ended self.new.down.inner.done)
+            (PeerHalf s (L.start (link_of self.new)) (L.state (link_of self.new)))
+            (side_state session.new.seen.log self.new.down) }
+        // The calls of the turn stand in the log behind those before, each of them allowed, and
+        // lead from the session and the context as they were to both as they are.
+        ensures walks { Walks (IsAllowed (SV.allows app.now) (SomeAllow SV.Modules.allows))
+            (is_lost self.old.down.stopped) (is_lost self.new.down.stopped)
+            (seen_by session.old.seen self.old.down.inner.session) (SV.mark_of app.now ctx.old)
+            (seen_by session.new.seen self.new.down.inner.session) (SV.mark_of app.now ctx.new) }
+        // It waits only where a link answered so in this turn.
+        ensures waits { result.step ≡ Step.Waited Pause.NotReady
+            → WaitRose (F.state client.old) (F.state client.new) (L.state (link_of self.old))
+            (L.state (link_of self.new)) }
+        ensures silent { result.step ≡ Step.Waited Pause.Silent
+            → IsSilent L.state (F.state client.new) self.new }
+        // In silence all that can be done asks a link that is silent on it, and neither link
+        // changed.
+        ensures quiet { result.step ≡ Step.Waited Pause.Silent
+            → MeetsSilence L.state (F.state client.old) (F.state client.new) session.new.seen.log
+            self.old self.new }
+        // A turn asks one link once, or none. One that moved asked the link of its branch, or it
+        // put a task into a pipe, took some out of one, brought an end, or called the filter of
+        // requests.
+        ensures asks { Asks L.state result.step (F.state client.old) (F.state client.new) self.old
+            self.new }
+        ensures moves { (s : Origin) (p : Passed)
+            → IsUnderWay L.state L.start s p (F.state client.old) (F.ahead client.old)
+            session.old.seen.log self.old
+            → result.step ≡ Step.Moved
+            → HasMoved L.state result.branch (F.state client.old) (F.state client.new)
+            session.old.seen.log session.new.seen.log self.old self.new }
+        // What was counted of it goes on with what the turn moved: what is moved, a call that puts
+        // nothing counted as a task, is no more than twice the bytes that both links gave, and each
+        // end comes once.
+        ensures counts_on { (s : Origin) (tasks ends : ℕ)
+            → HasCounted L.state L.start tasks ends s (F.state client.old) (F.ahead client.old)
+            session.old.seen.log self.old
+            → CountsOn L.state L.start tasks ends s (F.state client.new) (F.ahead client.new)
+            session.old.seen.log session.new.seen.log self.old self.new result.step }
+        // A turn that does not fail takes no call of the filter of requests back.
+        ensures calls { says_failed result.step ≡ false
+            → length (requests_in session.old.seen.log)
+            ≤ length (requests_in session.new.seen.log) }
+        // A turn that does not fail leaves the count of the client's faults, and a client's session
+        // that no hook may have left as anything.
+        ensures calm { says_failed result.step ≡ false
+            → (F.state client.new).faults ≡ (F.state client.old).faults }
+        ensures alive { says_failed result.step ≡ false → is_lost self.new.down.stopped ≡ false }
+        ensures client_start { F.start client.new ≡ F.start client.old }
+        ensures peer_start { L.start (link_of self.new) ≡ L.start (link_of self.old) }
+        // Nothing else takes the place of what it began with: the request had ended before its
+        // first call or not, and there is a head.
+        ensures at_first { self.new.down.at_first ≡ self.old.down.at_first }
+        ensures head { stood_head (is_lost self.new.down.stopped) self.new.down.inner.session
+            ≡ stood_head (is_lost self.old.down.stopped) self.old.down.inner.session }
+    {
+        let mut down = Hooked::over(app, session, ctx, &mut self.down);
+        let went = turn_over(&mut self.exchange, client, &mut down, schedule);
+        settled(&self.down, went)
+    }
+
     /// The session of the client's request, which hooks were shown. Where memory was wanted in one
     /// it may be anything.
     pub fn client_session(&self) -> &HttpSession
-        ensures { result.now ≡ self.now.exchange.down.inner.session }
+        ensures { result.now ≡ self.now.down.inner.session }
     {
-        self.exchange.down().inner().session()
+        self.down.inner().session()
     }
 
     /// Whether the link may be kept for a next request: not while the head is being sent, and then
@@ -291,9 +237,9 @@ impl<L: ByteLink> HookedExchange<L> {
 impl<L> HookedExchange<L> {
     /// Whether modules stood for each batch that passed its filters so far.
     pub fn modules_stood(&self) -> bool
-        ensures { result ≡ self.now.exchange.down.stood }
+        ensures { result ≡ self.now.down.stood }
     {
-        self.exchange.down().modules_stood()
+        self.down.modules_stood()
     }
 
     /// The link.
@@ -305,105 +251,110 @@ impl<L> HookedExchange<L> {
 
     /// The session of the client's request, and the link.
     pub fn into_parts(self) -> (HttpSession, L)
-        ensures client { result.0 ≡ self.exchange.down.inner.session }
+        ensures client { result.0 ≡ self.down.inner.session }
         ensures link { result.1 ≡ link_of self }
     {
-        let HookedExchange { exchange } = self;
-        let (down, up) = exchange.into_parts();
-        (down.into_inner().into_session(), up.into_link())
+        let HookedExchange { down, exchange } = self;
+        let client = down.into_inner().into_session();
+        (client, exchange.into_up().into_link())
     }
 
-    /// The exchange without the delay in milliseconds that the filters of pieces asked for since it
-    /// was last taken, or since it began, and that delay, as `Rested::take_delay` of that log.
-    pub fn take_delay(self, log: &PhaseLog) -> (HookedExchange<L>, u64)
-        ensures sum { result.1
-            ≡ min (delays_of (drop self.exchange.down.counted log.now)) (2 ^ 64 - 1) }
-        ensures counted { result.0 ≡ record self {
-          exchange = record self.exchange {
-            down = record self.exchange.down { counted = length log.now };
-          };
+    /// The delay in milliseconds that the filters of pieces asked for since it was last taken, or
+    /// since the exchange began, as `Rested::take_delay` of that log, which is the session's.
+    pub fn take_delay(&mut self, log: &PhaseLog) -> u64
+        ensures sum { result
+            ≡ min (delays_of (drop self.old.down.counted log.now)) (2 ^ 64 - 1) }
+        ensures counted { self.new ≡ record self.old {
+          down = record self.old.down { counted = length log.now };
         } }
     {
-        let HookedExchange { exchange } = self;
-        let (exchange, mut down) = exchange.replace_down(());
-        let delay = down.take_delay(log);
-        let (exchange, ()) = exchange.replace_down(down);
-        (HookedExchange { exchange }, delay)
+        self.down.take_delay(log)
     }
 
     /// The link alone.
     pub fn into_link(self) -> L
         ensures { result ≡ link_of self }
     {
-        let HookedExchange { exchange } = self;
+        let HookedExchange {
+            down: _down,
+            exchange,
+        } = self;
         exchange.into_up().into_link()
     }
 }
 
-/// An exchange between turns, and what hooks are shown.
-struct Held<M, C, L> {
-    exchange: Exchange<Rested, PeerSide<L>>,
-    session: Session<M>,
-    ctx: C,
-}
-
-/// The exchange with that application, that session and that context, for a turn.
-fn with_app<'a, SV: ProxyHttp, L>(
-    exchange: Exchange<Rested, PeerSide<L>>,
-    app: &'a SV,
-    session: Session<SV::Modules>,
-    ctx: SV::CTX,
-) -> Exchange<Hooked<'a, SV>, PeerSide<L>>
-    ensures { result ≡ record {
-      down = record {
-        app = app.entry;
-        session = session;
-        ctx = ctx;
-        side = exchange.down;
-      };
-      up = exchange.up;
-      duplex = exchange.duplex;
-      stage = exchange.stage;
-    } }
+/// One turn of that exchange over that side, which goes on holding what it was made over.
+fn turn_over<SV: ProxyHttp, L: ByteLink, F: Front, H: Schedule>(
+    exchange: &mut Exchange<PeerSide<L>>,
+    client: &mut F,
+    down: &mut Hooked<'_, SV>,
+    schedule: &mut H,
+) -> Turn
+    ensures goes { (s : Origin) (p : DownPast) (q : UpPast)
+        → IsBetween L.state L.start s (F.state client.old) (F.ahead client.old)
+        down.old.session.now.seen.log
+        (record { down = down.old.side.now; exchange = exchange.old }) p q
+        → TurnsBetween L.state L.start s (F.state client.new) (F.ahead client.new)
+        down.new.session.now.seen.log (is_some down.new.session.now.modules)
+        (record { down = down.new.side.now; exchange = exchange.new }) p q
+        (core_in down.old.session.now.seen.log
+        (record { down = down.old.side.now; exchange = exchange.old })) result.step }
+    ensures bodies { result.step ≡ Step.Finished → exchange.new.stage ≡ stage.Bodies }
+    ensures waits { result.step ≡ Step.Waited Pause.NotReady
+        → WaitRose (F.state client.old) (F.state client.new)
+        (L.state exchange.old.up.client.link) (L.state exchange.new.up.client.link) }
+    ensures silent { result.step ≡ Step.Waited Pause.Silent
+        → IsSilent L.state (F.state client.new)
+        (record { down = down.new.side.now; exchange = exchange.new }) }
+    ensures quiet { result.step ≡ Step.Waited Pause.Silent
+        → MeetsSilence L.state (F.state client.old) (F.state client.new)
+        down.new.session.now.seen.log
+        (record { down = down.old.side.now; exchange = exchange.old })
+        (record { down = down.new.side.now; exchange = exchange.new }) }
+    ensures asks { Asks L.state result.step (F.state client.old) (F.state client.new)
+        (record { down = down.old.side.now; exchange = exchange.old })
+        (record { down = down.new.side.now; exchange = exchange.new }) }
+    ensures moves { (s : Origin) (p : DownPast) (q : UpPast)
+        → IsBetween L.state L.start s (F.state client.old) (F.ahead client.old)
+        down.old.session.now.seen.log
+        (record { down = down.old.side.now; exchange = exchange.old }) p q
+        → result.step ≡ Step.Moved
+        → HasMoved L.state result.branch (F.state client.old) (F.state client.new)
+        down.old.session.now.seen.log down.new.session.now.seen.log
+        (record { down = down.old.side.now; exchange = exchange.old })
+        (record { down = down.new.side.now; exchange = exchange.new }) }
+    ensures errors { TellsOn down.old.side.now.told down.new.side.now.told result.step }
+    ensures calls { says_failed result.step ≡ false
+        → length (requests_in down.old.session.now.seen.log)
+        ≤ length (requests_in down.new.session.now.seen.log) }
+    ensures calm { says_failed result.step ≡ false
+        → (F.state client.new).faults ≡ (F.state client.old).faults }
+    ensures client_start { F.start client.new ≡ F.start client.old }
+    ensures peer_start { L.start exchange.new.up.client.link
+        ≡ L.start exchange.old.up.client.link }
+    ensures lasts { Lasts (IsAllowed (SV.allows down.old.app.now) (SomeAllow SV.Modules.allows))
+        (stays_of down.old.app.now down.old.side.now) (stays_of down.new.app.now down.new.side.now)
+        (is_lost down.old.side.now.stopped) (is_lost down.new.side.now.stopped)
+        (seen_by down.old.session.now.seen down.old.side.now.inner.session)
+        (SV.mark_of down.old.app.now down.old.ctx.now)
+        (seen_by down.new.session.now.seen down.new.side.now.inner.session)
+        (SV.mark_of down.new.app.now down.new.ctx.now) }
+    ensures same_session { down.new.session.ghost_name ≡ down.old.session.ghost_name }
+    ensures same_ctx { down.new.ctx.ghost_name ≡ down.old.ctx.ghost_name }
+    ensures same_side { down.new.side.ghost_name ≡ down.old.side.ghost_name }
 {
-    let (bare, side) = exchange.replace_down(());
-    let (held, ()) = bare.replace_down(Hooked::resume(app, session, ctx, side));
-    held
-}
-
-/// The exchange without it, to be held until the next turn, and the session and the context.
-fn without_app<'a, SV: ProxyHttp, L>(
-    exchange: Exchange<Hooked<'a, SV>, PeerSide<L>>,
-) -> Held<SV::Modules, SV::CTX, L>
-    ensures exchange { result.exchange ≡ record {
-      down = exchange.entry.down.side;
-      up = exchange.entry.up;
-      duplex = exchange.entry.duplex;
-      stage = exchange.entry.stage;
-    } }
-    ensures session { result.session ≡ exchange.entry.down.session }
-    ensures ctx { result.ctx ≡ exchange.entry.down.ctx }
-{
-    let (bare, hooked) = exchange.replace_down(());
-    let (side, session, ctx) = hooked.suspend();
-    let (exchange, ()) = bare.replace_down(side);
-    Held {
-        exchange,
-        session,
-        ctx,
-    }
+    exchange.turn(client, down, schedule)
 }
 
 /// What a turn came to that left this: where memory was wanted in a hook, that, whatever the duplex
 /// answered.
-fn settled<L>(left: &Exchange<Rested, PeerSide<L>>, turn: Turn) -> Turn
+fn settled(left: &Rested, turn: Turn) -> Turn
     ensures branch { result.branch ≡ turn.branch }
-    ensures lost { is_lost left.now.down.stopped ≡ true
-        → result.step ≡ Step.Failed Fail.OutOfMemory }
-    ensures alive { is_lost left.now.down.stopped ≡ false → result.step ≡ turn.step }
+    ensures lost { is_lost left.now.stopped ≡ true → result.step ≡ Step.Failed Fail.OutOfMemory }
+    ensures alive { is_lost left.now.stopped ≡ false → result.step ≡ turn.step }
     ensures either { (result.step ≡ turn.step) ⊎ (result.step ≡ Step.Failed Fail.OutOfMemory) }
 {
-    if left.down().is_lost() {
+    if left.is_lost() {
         return Turn {
             step: Step::Failed(Fail::OutOfMemory),
             branch: turn.branch,
@@ -443,98 +394,59 @@ fn puts(piece: &Piece) -> bool
     !piece.is_empty() || piece.upstream_end
 }
 
-/// The client's side behind filters, what is put before any turn, and the session and the context as
-/// the call of the filter left them.
-struct Put<M, C> {
+/// The client's side behind filters, and what is put before any turn.
+struct Put {
     down: Rested,
     piece: Piece,
-    session: Session<M>,
-    ctx: C,
+}
+
+/// The client's session, for which nothing could be put, and why.
+struct Unput {
+    client: HttpSession,
+    why: Fail,
 }
 
 /// The client's side behind the filters of that application, and what is put before any turn: what
 /// passes of what the session has kept of the body. Where that puts nothing no filter is called.
 ///
-/// The error of the filter, or out of memory: then all comes back, as hooks left it.
+/// The error of the filter, or out of memory: then the client's session comes back, as hooks left
+/// it.
 fn put_first<SV: ProxyHttp, F: Front>(
     app: &SV,
     alloc: Global,
-    session: Session<SV::Modules>,
-    ctx: SV::CTX,
+    session: &mut Session<SV::Modules>,
+    ctx: &mut SV::CTX,
     client: HttpSession,
-) -> std::result::Result<Put<SV::Modules, SV::CTX>, Unbegun<SV::Modules, SV::CTX, ()>>
+) -> std::result::Result<Put, Unput>
     ensures begins { IfOk result (λ r. (front : F) (s : Origin) (came : List ℕ)
-        → s.called ≡ session.seen.log
+        → s.called ≡ session.old.seen.log
         → BeginsBehind s came (F.state front) (F.ahead front) client
         → ((own : RequestHead) → head_of client.reading ≡ Some own
         → is_head_request own.method ≡ is_head_request s.head.method)
-        → SideHolds (F.state front) (F.ahead front) r.session.seen.log s r.down
+        → SideHolds (F.state front) (F.ahead front) session.new.seen.log s r.down
         (begun_past came (put_of false r.piece))) }
     ensures begun { IfOk result (λ r. IsBegun client r.down r.piece) }
-    ensures calls { IfOk result (λ r. CallsOnce session ctx client (SV.allows app.now)
-        (SV.mark_of app.now) r.session r.ctx r.down.inner.session) }
-    ensures causes { IfErr result (λ unput. CannotPut session ctx client (SV.allows app.now)
-        (SV.mark_of app.now) unput.why unput.session unput.ctx unput.client) }
+    ensures calls { IfOk result (λ r. CallsOnce session.old ctx.old client (SV.allows app.now)
+        (SV.mark_of app.now) session.new ctx.new r.down.inner.session) }
+    ensures causes { IfErr result (λ unput. CannotPut session.old ctx.old client
+        (SV.allows app.now) (SV.mark_of app.now) unput.why session.new ctx.new unput.client) }
 {
     let kept = match kept_of(alloc, &client) {
         Ok(kept) => kept,
-        Err(why) => {
-            return Err(Unbegun {
-                session,
-                ctx,
-                client,
-                link: (),
-                why,
-            });
-        }
+        Err(why) => return Err(Unput { client, why }),
     };
     let of_head = asks_head(&client);
     let inner = ClientSide::new(alloc, client);
     if !puts(&kept) {
-        let hooked = Hooked::new::<F>(app, session, ctx, inner, false, of_head);
-        return Ok(suspended(hooked, kept));
+        let down = Rested::begin::<F>(inner, session.phase_log(), false, of_head);
+        return Ok(Put { down, piece: kept });
     }
-    let (hooked, passed) = Hooked::begin_again::<F>(app, session, ctx, inner, kept, of_head);
+    let (down, passed) = Rested::begin_again::<SV, F>(app, session, ctx, inner, kept, of_head);
     match passed {
-        Ok(made) => Ok(suspended(hooked, made)),
-        Err(why) => Err(unput(hooked, why)),
-    }
-}
-
-/// The side between turns that puts that first.
-fn suspended<SV: ProxyHttp>(hooked: Hooked<'_, SV>, piece: Piece) -> Put<SV::Modules, SV::CTX>
-    ensures { result ≡ record {
-      down = hooked.entry.side;
-      piece = piece;
-      session = hooked.entry.session;
-      ctx = hooked.entry.ctx;
-    } }
-{
-    let (down, session, ctx) = hooked.suspend();
-    Put {
-        down,
-        piece,
-        session,
-        ctx,
-    }
-}
-
-/// All that a side holds for which nothing was put, for that reason.
-fn unput<SV: ProxyHttp>(hooked: Hooked<'_, SV>, why: Fail) -> Unbegun<SV::Modules, SV::CTX, ()>
-    ensures { result ≡ record {
-      session = hooked.entry.session;
-      ctx = hooked.entry.ctx;
-      client = hooked.entry.side.inner.session;
-      link = tt;
-      why = why;
-    } }
-{
-    let (side, session, ctx) = hooked.suspend();
-    Unbegun {
-        session,
-        ctx,
-        client: side.into_inner().into_session(),
-        link: (),
-        why,
+        Ok(piece) => Ok(Put { down, piece }),
+        Err(why) => {
+            let client = down.into_inner().into_session();
+            Err(Unput { client, why })
+        }
     }
 }

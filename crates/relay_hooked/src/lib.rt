@@ -9,7 +9,7 @@ ghost use Rattle.relay_hooked.specs.Stations.{ComeInOrder};
 ghost use Rattle.relay_hooked.specs.Order.{EndsByCause};
 ghost use Rattle.relay_hooked.specs.Laws.{IsAttemptSoFar, IsCaused, IsFinishing, IsInOrderSoFar, IsToldSoFar};
 
-pub use exchange::{Begun, HookedExchange, Turned, Unbegun, begin, turn};
+pub use exchange::{HookedExchange, Unbegun, begin};
 use relay_links::ByteLink;
 
 /// What passed between a client's side behind the filters of that application and a peer's side is

@@ -12,8 +12,7 @@ use Rattle.relay_tasks.specs.declared.error.Error.{Error}
 use Rattle.relay_tasks.specs.declared.task.HttpTask.{HttpTask}
 use Rattle.relay_links.specs.Link.{LinkState, LinkStart}
 use Rattle.relay_h1.specs.Tasks.{ResponseText}
-use Rattle.relay_peer.specs.Peer.{AreTasks, told_of}
-use Rattle.relay_peer.specs.declared.response_reading.ResponseReading.{ResponseReading}
+use Rattle.relay_peer.specs.Peer.{told_of}
 use Rattle.relay_peer.proofs.ExactLemmas.{Tasks-unique}
 use Rattle.relay_session.specs.Asked.{request_of}
 use Rattle.relay_session.specs.Response.{is_over}
@@ -27,18 +26,16 @@ use Rattle.relay_attempt.specs.Agrees.{AsksAlike}
 use Rattle.relay_attempt.specs.Passed.{Passed}
 use Rattle.relay_valid.specs.Unfit as unfit
 use Rattle.relay_valid.specs.Unfit.{IsUnfit}
+use Rattle.relay_valid.proofs.UnfitLemmas.{ended_or_broken, ended_or_cut}
 use Rattle.relay_hooked.specs.Calls.{Filtering}
 use Rattle.relay_hooked.specs.Neutral.{AreNeutral}
 use Rattle.relay_hooked.specs.Order.{EndsEarly}
-use Rattle.relay_still.proofs.FitLemmas.{ended_or_broken, ended_or_cut}
 use Rattle.relay_still.proofs.SaidLemmas.{final_unswitched, read_ends}
 use Rattle.relay_still.proofs.WriterLemmas.{queued_same}
 
 module _
     (f : Filtering) (s : Origin) (p : Passed) (link : LinkState) (start : LinkStart)
-    (early : EndsEarly f s p link start) (reading : ResponseReading)
-    (tasks : AreTasks s.sent.method s.asked link.ended p.got early.order.read reading)
-    (n : AreNeutral f.calls) (alike : AsksAlike s.head s.sent)
+    (early : EndsEarly f s p link start) (n : AreNeutral f.calls) (alike : AsksAlike s.head s.sent)
     (none : (e : Error) → RefusesHead s.sent.method s.asked p.got e → ⊥)
   where
     -- what was queued is what passed the filters, as it is handed on
@@ -62,7 +59,7 @@ module _
     -- so the end of the response was read
     early_ends : list_any is_end early.order.read ≡ true
     early_ends =
-        read_ends s p link.ended none early.order.read early.order.are_said alike reading tasks
+        read_ends s p link.ended none early.order.read early.order.are_said alike
         (map (handed s.sent.method) early.order.batched)
         (map (handed s.sent.method) early.order.first_batched.rest)
         (ap (map (handed s.sent.method)) (sym early.order.first_batched.joined)

@@ -1,5 +1,5 @@
-mod MadeLemmas
 mod FitLemmas
+mod StopLemmas
 mod SaidLemmas
 mod WriterLemmas
 mod RequestLemmas

@@ -1,10 +1,9 @@
 -- An end of what such filters let pass of a request is the client's, behind its whole body.
 --
 --   whole_pieces   pieces with an end among them are the body that the client's bytes say
-use Rattle.std.proofs.Common.{◌≡◌, ℕ, Bool, true, false, not, ◌==◌, List, [], ◌∷◌, ◌++◌, length, drop, refl, sym, ap, subst, ◌∙◌, append-nil, arith, Option, Some, None, if◌then◌else◌}
-use Rattle.std.specs.Prelude.{All, ◌||◌, ◌&&◌, is_none, is_some, option_to_list, unwrap_or}
+use Rattle.std.proofs.Common.{◌≡◌, ℕ, Bool, true, false, List, [], ◌∷◌, ◌++◌, drop, refl, sym, ap, subst, ◌∙◌, append-nil, Option, Some, None}
+use Rattle.std.specs.Prelude.{All, ◌||◌, ◌&&◌, is_none, is_some}
 use Rattle.std.specs.List.{list_any}
-use Rattle.std.proofs.lemmas.Bool.Decides.{nat_tests}
 use Rattle.std.proofs.lemmas.List.Elements.{All-head, All-tail}
 use Rattle.relay_tasks.specs.Task.{is_end}
 use Rattle.relay_tasks.specs.declared.error.Error.{Error}
@@ -12,65 +11,24 @@ use Rattle.relay_tasks.specs.declared.log.Item.{Item}
 use Rattle.relay_tasks.specs.declared.log.Item.TheVariants as item
 use Rattle.relay_tasks.specs.declared.log.LogEntry.{LogEntry}
 use Rattle.relay_tasks.specs.declared.task.HttpTask.{HttpTask}
-use Rattle.relay_tasks.specs.declared.task.HttpTask.TheVariants as task
-use Rattle.relay_h1.specs.Body.{Body, ended_text}
-use Rattle.relay_h1.specs.declared.framing.Framing.{Framing}
-use Rattle.relay_h1.proofs.VerdictLemmas.{HasRequest-unique}
-use Rattle.relay_peer.specs.Body.{body_of}
-use Rattle.relay_peer.proofs.FrontLemmas.{own_front}
+use Rattle.relay_h1.specs.Body.{ended_text}
+use Rattle.relay_peer.specs.Body.{IsFrontOf, body_of}
 use Rattle.relay_calls.specs.Log.{requests_in}
 use Rattle.relay_core.specs.Past.{Origin}
-use Rattle.relay_core.specs.Piece.{is_empty}
 use Rattle.relay_sides.proofs.ClientPast.{body_of-append}
-use Rattle.relay_filters.specs.Request.{PieceCall, bytes_in, end_in, ended_by, given_to, has_piece, is_end_by, is_end_in, is_told_end, passed, passes, put_in_item}
+use Rattle.relay_filters.specs.Request.{ToldLast, PieceCall, bytes_in, end_in, ended_by, given_to, has_piece, is_end_by, is_end_in, is_told_end, passed, passes}
+use Rattle.relay_filters.proofs.PassedLemmas.{told_is_last}
 use Rattle.relay_attempt.specs.Order.{ArePieces}
 use Rattle.relay_attempt.specs.Passed.{Passed, asked}
 use Rattle.relay_hooked.specs.Calls.{Filtering}
 use Rattle.relay_hooked.specs.Neutral.{AreNeutral, LeavesIt}
 use Rattle.relay_hooked.specs.Order.{IsInOrderWith}
+use Rattle.relay_hooked.proofs.HalfLemmas.{body_same}
+use Rattle.relay_hooked.proofs.MadeLemmas.{part_neutral}
+use Rattle.relay_hooked.proofs.NeutralLemmas.{call_bytes, passed_none}
 use Rattle.relay_hooked.proofs.PassedLemmas.{passed_ends}
-use Rattle.relay_still.specs.Still.{AreStill}
-use Rattle.relay_still.proofs.MadeLemmas.{part_neutral}
 
 -- ---- one call
-
--- a piece puts its bytes
-put_bytes : (left : Option (List ℕ)) (end : Bool)
-    → body_of
-    (option_to_list (if is_empty left && not end then None else Some (task.Body left end)))
-    ≡ unwrap_or left []
-put_bytes None true = refl
-put_bytes None false = refl
-put_bytes (Some []) true = refl
-put_bytes (Some []) false = refl
-put_bytes (Some (b ∷ bytes)) end =
-    let some : (length (b ∷ bytes) == 0) ≡ false = grind (arith, nat_tests) in
-    rw some (append-nil (b ∷ bytes))
-
--- so does what was left
-item_bytes : (given : Bool) (left : Item) → body_of (put_in_item given left) ≡ bytes_in left
-item_bytes given (item.Piece left end) = put_bytes left _
-item_bytes given (item.Request head) = refl
-item_bytes given (item.Response head end) = refl
-item_bytes given (item.Trailers fields) = refl
-item_bytes given item.Nothing = refl
-item_bytes given (item.Message bytes end) = refl
-item_bytes given (item.Answer says) = refl
-item_bytes given (item.Addressed peer reused) = refl
-item_bytes given (item.Failure error) = refl
-item_bytes given (item.Code code reused) = refl
-item_bytes given (item.Status purged) = refl
-item_bytes given (item.Action action) = refl
-item_bytes given (item.Text text) = refl
-item_bytes given (item.Kept kept) = refl
-item_bytes given (item.Injected injected) = refl
-
--- what a call passes brings what it was given
-call_bytes : (e : LogEntry) → LeavesIt e → body_of (passes false e) ≡ bytes_in e.input
-call_bytes e n =
-    ap (λ (o : Option Error).
-    body_of (if false || is_some o then [] else put_in_item (has_piece e.input) e.output)) n.ok
-    ∙ item_bytes (has_piece e.input) e.output ∙ ap bytes_in n.same
 
 -- a piece that was left is not taken away
 none_taken : (end : Bool) (given : Option (List ℕ))
@@ -93,11 +51,6 @@ told_end e call n ends =
     ap end_in call.was ∙ none_taken call.end call.given own
 
 -- ---- the calls
-
--- nothing passes once the request has ended
-none_passed : (es : List LogEntry) → passed true es ≡ []
-none_passed [] = refl
-none_passed (e ∷ es) = none_passed es
 
 -- a call was told the end, and what passed are the bytes that the calls up to it were given
 record Last (es : List LogEntry) (put : List ℕ) : Type 0 where
@@ -127,7 +80,7 @@ one_more e es call n later = on (is_end_by e) refl
       told = told_end e call n is;
       all = parts
           ∙ ap (λ (b : Bool). body_of (passes false e) ++ body_of (passed b es)) is
-          ∙ ap (λ (l : List HttpTask). body_of (passes false e) ++ body_of l) (none_passed es)
+          ∙ ap (λ (l : List HttpTask). body_of (passes false e) ++ body_of l) (passed_none es)
           ∙ ap (λ (l : List ℕ). l ++ []) (call_bytes e n);
     }
     on false is =
@@ -158,35 +111,52 @@ last_of (e ∷ es) n each ends =
 last_behind : (a : Bool) (es : List LogEntry) → AreNeutral es → All PieceCall es
     → list_any is_end (passed a es) ≡ true → Last es (body_of (passed a es))
 last_behind true es n each ends =
-    let wrong : false ≡ true = sym (ap (list_any is_end) (none_passed es)) ∙ ends in absurd (cc)
+    let wrong : false ≡ true = sym (ap (list_any is_end) (passed_none es)) ∙ ends in absurd (cc)
 last_behind false es n each ends = last_of es n each ends
 
 -- ---- the pieces
 
+-- a call that was told the end is among them
+told_among : (front behind : List LogEntry) (e : LogEntry) → is_told_end e ≡ true
+    → list_any is_told_end (front ++ e ∷ behind) ≡ true
+told_among [] behind e told = ap (λ (b : Bool). b || list_any is_told_end behind) told
+told_among (first ∷ front) behind e told =
+    behind_it (is_told_end first) _ (told_among front behind e told)
+  where
+    behind_it : (a b : Bool) → b ≡ true → (a || b) ≡ true
+    behind_it true b is = refl
+    behind_it false b is = is
+
 -- pieces with an end among them are the body that the client's bytes say
 pub whole_pieces : (f : Filtering) (s : Origin) (p : Passed) (closed : Bool)
-    (refused : Option Error) (o : IsInOrderWith refused f s p closed) → AreStill f s p
+    (refused : Option Error) (o : IsInOrderWith refused f s p closed) → AreNeutral f.calls
     → list_any is_end o.pieces ≡ true
     → ArePieces o.asks.framing (drop o.asks.len (asked s p)) o.pieces
-whole_pieces f s p closed refused o still ends =
+whole_pieces f s p closed refused o n ends =
     let es = requests_in f.calls in
-    let bytes = asked s p in
-    let last = last_behind f.at_first es (part_neutral _ f.calls still.neutral) o.passed.each
+    let last = last_behind f.at_first es (part_neutral _ f.calls n) o.passed.each
     (sym (ap (list_any is_end) o.passed.left) ∙ ends) in
-    let (ahead, whole) = still.ends last.front last.behind last.e last.are last.told in
-    let same = HasRequest-unique bytes whole.head s.head whole.framing o.asks.framing whole.len
-    o.asks.len whole.has o.asks.has in
-    let joined : body_of o.pieces ≡ given_to (last.front ++ last.e ∷ []) =
-    ap body_of o.passed.left ∙ last.all in
-    let text = ended_text (body_of o.pieces) whole.n in
+    let none = told_is_last last.front last.behind last.e
+    (subst (λ (l : List LogEntry). ToldLast l) last.are o.passed.told_last) last.told in
+    let all : es ≡ last.front ++ last.e ∷ [] =
+    last.are ∙ ap (λ (l : List LogEntry). last.front ++ last.e ∷ l) none in
+    let told : list_any is_told_end es ≡ true =
+    ap (list_any is_told_end) last.are ∙ told_among last.front last.behind last.e last.told in
+    let joined : body_of o.pieces ≡ body_of o.came =
+    ap body_of o.passed.left ∙ last.all ∙ ap given_to (sym all)
+    ∙ sym (append-nil (given_to es))
+    ∙ ap (λ (l : List ℕ). given_to es ++ l) (sym (o.passed.told_whole told))
+    ∙ sym o.passed.read ∙ body_same o.came in
+    let whole = o.are_came.whole (o.passed.told told) in
     record {
-      text = text;
-      says = subst (λ (k : ℕ). Body o.asks.framing (drop k bytes) text) same.2
-          (subst (λ (g : Framing). Body g (drop whole.len bytes) text) same.1
-          (subst (λ (xs : List ℕ). Body whole.framing (drop whole.len bytes)
-          (ended_text xs whole.n)) (sym joined) whole.says));
-      front = own_front (body_of o.pieces);
+      text = o.are_came.text;
+      says = o.are_came.says;
+      front = subst (λ (l : List ℕ). IsFrontOf l o.are_came.text.bytes) (sym joined)
+          o.are_came.front;
       ends_last = o.ends_last;
-      whole = λ found. (whole.n, refl);
+      whole = λ found. (
+        whole.0,
+        whole.1 ∙ ap (λ (l : List ℕ). ended_text l whole.0) (sym joined),
+      );
       headed = λ none. ends;
     }

@@ -4,11 +4,12 @@
 --   stays_informs     nor does it switch protocols
 --   final_unswitched  nor does a final head of such a response
 --   final_room        which has room where it is to be chunked
+--   read_passes       each task of it may pass such filters
 --   are_handed        from AreSaid: AreOf of relay_attempt
 --   read_ends         where a front of them is over, the end of the response was read
-use Rattle.std.proofs.Common.{◌≡◌, ℕ, Bool, true, false, not, ◌⊎◌, inl, inr, List, [], ◌∷◌, ◌++◌, append-nil, map, refl, sym, subst, Some, eqb-true}
+use Rattle.std.proofs.Common.{◌≡◌, ℕ, Bool, true, false, not, ◌⊎◌, inl, inr, List, [], ◌∷◌, ◌++◌, append-nil, map, refl, sym, subst, ◌∙◌, Some, eqb-true}
 use Rattle.std.specs.Prelude.{All, ◌==◌, ◌&&◌, ◌||◌, is_none, nat_le, nat_lt, codes}
-use Rattle.std.specs.List.{list_any}
+use Rattle.std.specs.List.{AllByRecursion, list_any}
 use Rattle.std.proofs.lemmas.List.Elements.{All-cons, All-nil, All-head, All-tail}
 use Rattle.http_header.specs.HeaderMap.{RefusesInsert, get}
 use Rattle.relay_tasks.specs.Head.{ResponseHead}
@@ -23,7 +24,6 @@ use Rattle.relay_h1.specs.Framing.{is_bodiless}
 use Rattle.relay_h1.specs.Tasks.{HasFinal}
 use Rattle.relay_h1.specs.Verdict.{refused_from}
 use Rattle.relay_peer.specs.ResponseReading.{ToldResponse, untold, with_head, with_task}
-use Rattle.relay_peer.specs.declared.response_reading.ResponseReading.{ResponseReading}
 use Rattle.relay_session.specs.Asked.{request_of}
 use Rattle.relay_session.specs.Response.{is_over}
 use Rattle.relay_session.specs.TaskWire.{wire}
@@ -33,11 +33,15 @@ use Rattle.relay_core.specs.Past.{Origin}
 use Rattle.relay_core.proofs.BoolLemmas.{decide, not_true, or_false, or_left, or_right}
 use Rattle.relay_sides.specs.Filtered as filtered
 use Rattle.relay_sides.specs.Filtered.{HasRoom, RefusesHead, handed, is_head_request, is_switch}
+use Rattle.relay_sides.proofs.FilterLemmas.{one_test}
+use Rattle.relay_filters.specs.Chain.{method_of}
 use Rattle.relay_attempt.specs.Agrees.{AsksAlike}
 use Rattle.relay_attempt.specs.Order.{AreOf}
 use Rattle.relay_attempt.specs.Passed.{Passed}
 use Rattle.relay_attempt.proofs.FitLemmas.{final_stays, over_has_end}
 use Rattle.relay_hooked.specs.Order.{AreSaid}
+use Rattle.relay_hooked.proofs.MadeLemmas.{method_asks}
+use Rattle.relay_still.proofs.StopLemmas.{TaskMayPass}
 
 -- ---- the heads that tasks tell
 
@@ -204,7 +208,35 @@ module _
             (one_room one (All-head (IsToldHead (told_of read)) one tasks told))
             (all_room tasks (All-tail (IsToldHead (told_of read)) one tasks told))
 
-        -- so the tasks are handed on
+        -- so each may pass filters that change nothing
+        one_passes : (oh : Bool) → is_head_request s.sent.method ≡ oh → (one : HttpTask)
+            → IsToldHead (told_of read) one → TaskMayPass oh one
+        one_passes oh same (task.Header head end) told = record {
+          stays = one_stays (task.Header head end) told;
+          room = λ lacks refuses.
+              one_room (task.Header head end) told
+              (one_test s.sent.method (method_of oh) end head (same ∙ sym (method_asks oh))
+              ∙ lacks) refuses;
+        }
+        one_passes oh same (task.Body piece end) told = tt
+        one_passes oh same (task.UpgradedBody piece end) told = tt
+        one_passes oh same (task.Trailer fields) told = tt
+        one_passes oh same task.Done told = tt
+        one_passes oh same (task.Failed error) told = tt
+
+        all_pass : (oh : Bool) → is_head_request s.sent.method ≡ oh → (tasks : List HttpTask)
+            → All (IsToldHead (told_of read)) tasks → AllByRecursion (TaskMayPass oh) tasks
+        all_pass oh same [] told = tt
+        all_pass oh same (one ∷ tasks) told = (
+          one_passes oh same one (All-head (IsToldHead (told_of read)) one tasks told),
+          all_pass oh same tasks (All-tail (IsToldHead (told_of read)) one tasks told),
+        )
+
+        pub read_passes : (oh : Bool) → is_head_request s.sent.method ≡ oh
+            → AllByRecursion (TaskMayPass oh) read
+        read_passes oh same = all_pass oh same read (all_told untold read said.follow)
+
+        -- and the tasks are handed on
         pub are_handed : AreOf s.sent.method s.asked closed p.got
             (map (handed s.sent.method) read)
         are_handed = record {
@@ -222,15 +254,14 @@ module _
         }
 
         -- and where a front of them is sent as a text that is over, their end was read
-        pub read_ends : AsksAlike s.head s.sent → (reading : ResponseReading)
-            → AreTasks s.sent.method s.asked closed p.got read reading
-            → (front rest : List HttpTask) → map (handed s.sent.method) read ≡ front ++ rest
+        pub read_ends : AsksAlike s.head s.sent → (front rest : List HttpTask)
+            → map (handed s.sent.method) read ≡ front ++ rest
             → is_over (wire (request_of s.head) place.NoHead front).place ≡ true
             → list_any is_end read ≡ true
         unfolding are_handed
-        read_ends alike reading tasks front rest same over =
+        read_ends alike front rest same over =
             over_has_end s.head s.sent.method alike s.asked closed p.got
-            (map (handed s.sent.method) read) are_handed [] reading
+            (map (handed s.sent.method) read) are_handed [] said.reading
             (subst (λ (l : List HttpTask).
-            AreTasks s.sent.method s.asked closed p.got l reading)
-            (sym (append-nil read)) tasks) tt front rest same over
+            AreTasks s.sent.method s.asked closed p.got l said.reading)
+            (sym (append-nil read)) said.are_tasks) tt front rest same over

@@ -1,8 +1,7 @@
 -- The client's writer refuses nothing of a valid exchange behind filters that change nothing.
 --
---   alike_head    two heads that ask alike are both of a HEAD, or none is
 --   never_short   from FailsFor by the writer, AreNeutral and IsValid: nothing
-use Rattle.std.proofs.Common.{◌≡◌, ℕ, Bool, true, false, if◌then◌else◌, List, [], ◌++◌, map, refl, sym, ap, subst, ◌∙◌, append-nil, Option, Some, None}
+use Rattle.std.proofs.Common.{◌≡◌, ℕ, Bool, true, false, List, [], ◌++◌, map, refl, sym, ap, subst, ◌∙◌, append-nil, Option, Some, None}
 use Rattle.std.specs.List.{list_any}
 use Rattle.std.proofs.lemmas.List.{map-append}
 use Rattle.relay_tasks.specs.Head.{ResponseHead}
@@ -14,10 +13,9 @@ use Rattle.relay_links.specs.Link.{LinkState, LinkStart}
 use Rattle.relay_h1.specs.Tasks as tasks
 use Rattle.relay_h1.specs.Tasks.{Tasks, ResponseText, ended, open_mark}
 use Rattle.relay_peer.specs.Body.{IsFrontOf}
-use Rattle.relay_session.specs.Asked.{asks_of, request_of}
+use Rattle.relay_session.specs.Asked.{request_of}
 use Rattle.relay_session.specs.Response.{is_over}
 use Rattle.relay_session.specs.TaskWire.{first_refusal, refusal, wire}
-use Rattle.relay_session.specs.declared.task_text.Asks.TheVariants as asks
 use Rattle.relay_session.specs.declared.task_text.Place.TheVariants as place
 use Rattle.relay_core.specs.Past.{Origin}
 use Rattle.relay_sides.specs.Filtered.{RefusesHead, handed, is_head_request}
@@ -34,20 +32,10 @@ use Rattle.relay_valid.proofs.ValidLemmas.{head_blameless, tasks_unrefused}
 use Rattle.relay_hooked.specs.Calls.{Filtering}
 use Rattle.relay_hooked.specs.Neutral.{AreNeutral}
 use Rattle.relay_hooked.specs.Order.{FailsFor, IsInOrderWith, text_of}
+use Rattle.relay_hooked.proofs.MadeLemmas.{made_neutral, makes_neutral}
+use Rattle.relay_hooked.proofs.NeutralLemmas.{alike_head}
 use Rattle.relay_still.specs.Laws.{is_refused}
-use Rattle.relay_still.proofs.MadeLemmas.{made_neutral, makes_neutral}
 use Rattle.relay_still.proofs.SaidLemmas.{are_handed}
-
--- two heads ask alike where both are a HEAD, or none is
-pub alike_head : (a b : List ℕ) → asks_of a ≡ asks_of b → is_head_request a ≡ is_head_request b
-alike_head a b = on (is_head_request a) (is_head_request b)
-  where
-    on : (x y : Bool)
-        → (if x then asks.Head else asks.Other) ≡ (if y then asks.Head else asks.Other) → x ≡ y
-    on true true same = refl
-    on true false same = absurd (cc)
-    on false true same = absurd (cc)
-    on false false same = refl
 
 -- ---- the end of a response
 
@@ -165,7 +153,13 @@ pub never_short : (f : Filtering) (s : Origin) (p : Passed) (client link : LinkS
     → is_refused why ≡ true → AreNeutral f.calls → IsValid s p client link start → ⊥
 never_short f s p client link start e (FailsFor.by_client o blames) is n valid = cc
 never_short f s p client link start e (FailsFor.by_peer o lost blames) is n valid = cc
-never_short f s p client link start e (FailsFor.by_filter o stopped refuses) is n valid = cc
+never_short f s p client link start e (FailsFor.by_piece o stopped front last are call answered)
+    is n valid =
+    cc
+never_short f s p client link start e
+    (FailsFor.by_batch o stopped unasked stand batch before own are within stops refuses) is n
+    valid =
+    cc
 never_short f s p client link start e
     (FailsFor.by_writer o stand batch made unasked read made_so fails) is n valid =
     batch_unrefused f s p link.ended n valid.agrees.method

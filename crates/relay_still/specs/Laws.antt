@@ -3,8 +3,6 @@ use Rattle.std.specs.Prelude.{◌≡◌, Bool, true, false}
 use Rattle.relay_tasks.specs.declared.error.Error.{Error}
 use Rattle.relay_links.specs.Link.{LinkState, LinkStart}
 use Rattle.relay_core.specs.Past.{Origin}
-use Rattle.relay_peer.specs.Peer.{AreTasks}
-use Rattle.relay_peer.specs.declared.response_reading.ResponseReading.{ResponseReading}
 use Rattle.relay_sides.specs.Filtered.{RefusesHead}
 use Rattle.relay_attempt.specs.Agrees.{AsksAlike}
 use Rattle.relay_attempt.specs.Passed.{Passed}
@@ -13,7 +11,6 @@ use Rattle.relay_valid.specs.Valid.{IsValid}
 use Rattle.relay_hooked.specs.Calls.{Filtering}
 use Rattle.relay_hooked.specs.Neutral.{AreNeutral}
 use Rattle.relay_hooked.specs.Order.{EndsEarly, FailsFor, IsRelayed}
-use Rattle.relay_still.specs.Still.{AreStill}
 
 -- no response is relayed whole, where each call left what it was given and answered no error, that
 -- is broken, cut off or switches protocols
@@ -28,7 +25,9 @@ abbrev pub is_refused : {f : Filtering} {s : Origin} {p : Passed} {client link :
     {start : LinkStart} {e : Error} → FailsFor f s p client link start e → Bool
 is_refused (FailsFor.by_client order blames) = false
 is_refused (FailsFor.by_peer order lost blames) = false
-is_refused (FailsFor.by_filter order stopped refuses) = false
+is_refused (FailsFor.by_piece order stopped front last are call answered) = false
+is_refused (FailsFor.by_batch order stopped unasked stand batch before own are read stops refuses) =
+    false
 is_refused (FailsFor.by_writer order stand batch made unasked read made_so refused) = true
 is_refused (FailsFor.by_cut order front at unasked is passes) = true
 is_refused (FailsFor.by_end refused order ends why cannot) = true
@@ -40,19 +39,17 @@ NeverShort = (f : Filtering) (s : Origin) (p : Passed) (client link : LinkState)
     (start : LinkStart) (e : Error) (why : FailsFor f s p client link start e)
     → is_refused why ≡ true → AreNeutral f.calls → ¬ (IsValid s p client link start)
 
--- no valid exchange fails with an error whose filters changed nothing
+-- no valid exchange fails with an error, where each call left what it was given and answered none
 abbrev pub ValidNeverFails : Type 0
 ValidNeverFails = (f : Filtering) (s : Origin) (p : Passed) (client link : LinkState)
-    (start : LinkStart) (e : Error) → FailsFor f s p client link start e → AreStill f s p
+    (start : LinkStart) (e : Error) → FailsFor f s p client link start e → AreNeutral f.calls
     → ¬ (IsValid s p client link start)
 
 -- what ended early, where each call left what it was given and answered no error, both heads ask
 -- alike, and no head of the response is refused, is no response that is broken, cut off or switches
--- protocols. The tasks that the peer gave are those of a reading of its bytes
+-- protocols
 abbrev pub EarlyIsFit : Type 0
 EarlyIsFit = (f : Filtering) (s : Origin) (p : Passed) (link : LinkState) (start : LinkStart)
-    (early : EndsEarly f s p link start) (reading : ResponseReading)
-    → AreTasks s.sent.method s.asked link.ended p.got early.order.read reading
-    → AreNeutral f.calls → AsksAlike s.head s.sent
+    → EndsEarly f s p link start → AreNeutral f.calls → AsksAlike s.head s.sent
     → ((e : Error) → ¬ (RefusesHead s.sent.method s.asked p.got e))
     → ¬ (IsUnfit s.sent.method s.asked p.got link.ended)

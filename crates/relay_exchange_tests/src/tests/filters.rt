@@ -6,9 +6,9 @@ use bytes::Bytes;
 use http::Method;
 use http_header::{CONTENT_LENGTH, HeaderValue};
 use relay_core::{Down, Piece, UpKind};
-use relay_filters::Hooked;
+use relay_filters::{Hooked, Rested};
 use relay_h1::{Connection, Framing};
-use relay_hooks::{App, NoModules, ProxyHttp, Session};
+use relay_hooks::{App, Counted, NoModules, ProxyHttp, Session};
 use relay_links::ScriptLink;
 use relay_session::HttpSession;
 use relay_sides::ClientSide;
@@ -20,7 +20,15 @@ use std::alloc::Global;
 
 type Client = Connection<ScriptLink, ()>;
 
-type Side<'a> = Hooked<'a, App<Changes>>;
+/// What a side is made over for a call: the application, the session and the context that its hooks
+/// are shown, and the rest of it.
+#[derive(Drop)]
+struct Held<'a> {
+    app: &'a App<Changes>,
+    session: Session<NoModules>,
+    ctx: Counted<Bytes>,
+    rest: Rested,
+}
 
 /// A client that sends a body of four bytes in two parts, and takes all.
 fn client(alloc: Global) -> Result<Client> {
@@ -35,7 +43,7 @@ fn session(alloc: Global, framing: Framing) -> Result<HttpSession> {
 }
 
 /// The session whose log has the calls, with modules or before they are made.
-fn held(app: &App<Changes>, alloc: Global, made: bool) -> Result<Session<NoModules>> {
+fn shown(app: &App<Changes>, alloc: Global, made: bool) -> Result<Session<NoModules>> {
     let stand_in = session(alloc, Framing::Empty)?;
     if made {
         let modules = app.init_downstream_modules(alloc)?;
@@ -49,41 +57,30 @@ fn inner(alloc: Global, framing: Framing) -> Result<ClientSide> {
     Ok(ClientSide::new(alloc, session(alloc, framing)?))
 }
 
-/// The side behind that application over that of a client, whose request has ended or not.
-fn over<'a>(
-    app: &'a App<Changes>,
-    held: Session<NoModules>,
-    inner: ClientSide,
-    ended: bool,
-) -> Side<'a> {
-    Hooked::new::<Client>(app, held, app.new_ctx(), inner, ended, false)
-}
-
 /// The side behind that application of a request with a body in that framing, which has ended or
 /// not.
-fn side<'a>(
+fn held<'a>(
     app: &'a App<Changes>,
     alloc: Global,
     framing: Framing,
     made: bool,
     ended: bool,
-) -> Result<Side<'a>> {
+) -> Result<Held<'a>> {
     let inner = inner(alloc, framing)?;
-    let held = held(app, alloc, made)?;
-    Ok(over(app, held, inner, ended))
+    let session = shown(app, alloc, made)?;
+    let rest = Rested::begin::<Client>(inner, session.phase_log(), ended, false);
+    let ctx = app.new_ctx();
+    Ok(Held {
+        app,
+        session,
+        ctx,
+        rest,
+    })
 }
 
-/// Lets go of a value.
-fn release<T: Drop>(_value: T) {}
-
-/// How many calls were entered by that side, which is let go of.
-fn entered(side: Side<'_>) -> usize {
-    let calls = side.session().phase_log().len();
-    let (rested, held, ctx) = side.suspend();
-    release(rested);
-    release(held);
-    release(ctx);
-    calls
+/// How many calls were entered by that side.
+fn entered(held: &Held<'_>) -> usize {
+    held.session.phase_log().len()
 }
 
 /// How many bytes a piece has, and whether the request ends with it.
@@ -106,8 +103,9 @@ fn given(took: &Took<Piece>) -> Given {
 }
 
 /// What a read gives, where the client may be read.
-fn read(side: &mut Side<'_>, client: &mut Client) -> Given {
-    if !Down::<Client>::may_read(side) {
+fn read(held: &mut Held<'_>, client: &mut Client) -> Given {
+    let mut side = Hooked::over(held.app, &mut held.session, &mut held.ctx, &mut held.rest);
+    if !Down::<Client>::may_read(&side) {
         return None;
     }
     given(&side.read_piece(client, false))
@@ -116,10 +114,10 @@ fn read(side: &mut Side<'_>, client: &mut Client) -> Given {
 /// What two reads give behind that application, and how many calls were entered.
 fn reads(app: &App<Changes>, alloc: Global) -> Result<(Given, Given, usize)> {
     let mut client = client(alloc)?;
-    let mut side = side(app, alloc, Framing::Length(4), true, false)?;
-    let first = read(&mut side, &mut client);
-    let second = read(&mut side, &mut client);
-    Ok((first, second, entered(side)))
+    let mut held = held(app, alloc, Framing::Length(4), true, false)?;
+    let first = read(&mut held, &mut client);
+    let second = read(&mut held, &mut client);
+    Ok((first, second, entered(&held)))
 }
 
 #[test]
@@ -138,9 +136,9 @@ fn ends_the_request_where_a_piece_is_taken_away(rt: HostRuntime) {
 /// that were read before, and what passes of them.
 fn again_over<'a>(
     app: &'a App<Changes>,
-    held: Session<NoModules>,
+    mut session: Session<NoModules>,
     inner: ClientSide,
-) -> Result<(Side<'a>, Given)> {
+) -> Result<(Held<'a>, Given)> {
     if !inner.session().has_head() {
         return Err(Fail::OutOfMemory);
     }
@@ -149,11 +147,24 @@ fn again_over<'a>(
         upstream_end: false,
         client_end: false,
     };
-    let ctx = app.new_ctx();
-    let (side, passed) = Hooked::begin_again::<Client>(app, held, ctx, inner, put, false);
+    let mut ctx = app.new_ctx();
+    let (rest, passed) = Rested::begin_again::<App<Changes>, Client>(
+        app,
+        &mut session,
+        &mut ctx,
+        inner,
+        put,
+        false,
+    );
+    let held = Held {
+        app,
+        session,
+        ctx,
+        rest,
+    };
     match &passed {
-        Ok(piece) => Ok((side, piece_given(piece))),
-        Err(_) => Ok((side, None)),
+        Ok(piece) => Ok((held, piece_given(piece))),
+        Err(_) => Ok((held, None)),
     }
 }
 
@@ -162,11 +173,11 @@ fn again_over<'a>(
 fn again(app: &App<Changes>, alloc: Global) -> Result<([Given; 3], usize)> {
     let mut client = client(alloc)?;
     let inner = inner(alloc, Framing::Length(4))?;
-    let held = held(app, alloc, true)?;
-    let (mut side, first) = again_over(app, held, inner)?;
-    let second = read(&mut side, &mut client);
-    let third = read(&mut side, &mut client);
-    Ok(([first, second, third], entered(side)))
+    let session = shown(app, alloc, true)?;
+    let (mut held, first) = again_over(app, session, inner)?;
+    let second = read(&mut held, &mut client);
+    let third = read(&mut held, &mut client);
+    Ok(([first, second, third], entered(&held)))
 }
 
 #[test]
@@ -202,13 +213,15 @@ fn batch(alloc: Global, response: Response) -> Result<TaskList> {
 }
 
 /// Gives that batch to the side.
-fn take(side: &mut Side<'_>, tasks: TaskList) -> Result<bool> {
-    Down::<Client>::take_batch(side, tasks, UpKind::H1)
+fn take(held: &mut Held<'_>, tasks: TaskList) -> Result<bool> {
+    let mut side = Hooked::over(held.app, &mut held.session, &mut held.ctx, &mut held.rest);
+    Down::<Client>::take_batch(&mut side, tasks, UpKind::H1)
 }
 
 /// Writes what waits, if anything does.
-fn write(side: &mut Side<'_>, client: &mut Client) {
-    if Down::<Client>::has_pending(side) {
+fn write(held: &mut Held<'_>, client: &mut Client) {
+    let mut side = Hooked::over(held.app, &mut held.session, &mut held.ctx, &mut held.rest);
+    if Down::<Client>::has_pending(&side) {
         let _ = side.write_pending(client);
     }
 }
@@ -216,15 +229,14 @@ fn write(side: &mut Side<'_>, client: &mut Client) {
 /// What becomes of that batch at that side: the answer, how many calls were entered, and whether
 /// the client takes just that text.
 fn answer(
-    side: Side<'_>,
+    held: &mut Held<'_>,
     client: &mut Client,
     tasks: TaskList,
     text: &str,
 ) -> (Result<bool>, usize, bool) {
-    let mut side = side;
-    let answer = take(&mut side, tasks);
-    write(&mut side, client);
-    (answer, entered(side), has_taken(client.link(), text))
+    let answer = take(held, tasks);
+    write(held, client);
+    (answer, entered(held), has_taken(client.link(), text))
 }
 
 /// The same of a response behind the application that writes, whose modules were made or not.
@@ -237,8 +249,8 @@ fn answers(
     let app = app(Does::Writes);
     let tasks = batch(alloc, response)?;
     let mut client = client(alloc)?;
-    let side = side(&app, alloc, Framing::Empty, made, true)?;
-    Ok(answer(side, &mut client, tasks, text))
+    let mut held = held(&app, alloc, Framing::Empty, made, true)?;
+    Ok(answer(&mut held, &mut client, tasks, text))
 }
 
 const WRITTEN: &str = "HTTP/1.1 200 OK\r\ncontent-length: 2\r\nvia: relay\r\n\r\nho";
@@ -301,11 +313,10 @@ fn three_pieces(alloc: Global) -> Result<TaskList> {
 /// The delay that is taken behind a batch of three pieces, and that behind it.
 fn delays(app: &App<Changes>, alloc: Global) -> Result<(u64, u64)> {
     let tasks = three_pieces(alloc)?;
-    let mut side = side(app, alloc, Framing::Empty, true, true)?;
-    let _refused = take(&mut side, tasks);
-    let first = side.take_delay();
-    let second = side.take_delay();
-    let _calls = entered(side);
+    let mut held = held(app, alloc, Framing::Empty, true, true)?;
+    let _refused = take(&mut held, tasks);
+    let first = held.rest.take_delay(held.session.phase_log());
+    let second = held.rest.take_delay(held.session.phase_log());
     Ok((first, second))
 }
 

@@ -1,14 +1,13 @@
 //! Whole exchanges behind an application, which is held by none of them between two turns, nor is
-//! what hooks are shown. What comes of one is a plain value.
+//! what hooks are shown: each turn borrows them.
 use super::app::{Changes, Does, app};
 use super::scripts::{Gives, has_taken, link};
 use bytes::Bytes;
 use http::Method;
 use http_header::{CONTENT_LENGTH, HeaderValue};
 use relay_core::Step;
-use relay_exchange::Turn;
 use relay_h1::{Connection, Framing};
-use relay_hooked::{Begun, Turned, Unbegun, begin, turn};
+use relay_hooked::{HookedExchange, Unbegun, begin};
 use relay_hooks::{App, Counted, NoModules, ProxyHttp, Session};
 use relay_links::{ListSchedule, ScriptLink};
 use relay_session::HttpSession;
@@ -17,8 +16,16 @@ use std::alloc::Global;
 
 type Client = Connection<ScriptLink, ()>;
 
+/// The session that hooks are shown.
+type Shown = Session<NoModules>;
+
 /// An exchange, and the session and the context that its hooks are shown.
-type Exchange = Begun<NoModules, Counted<Bytes>, ScriptLink>;
+#[derive(Drop)]
+struct Held {
+    exchange: HookedExchange<ScriptLink>,
+    session: Shown,
+    ctx: Counted<Bytes>,
+}
 
 /// The head of an upload of four bytes.
 fn upload(alloc: Global) -> Result<RequestHeader> {
@@ -28,7 +35,7 @@ fn upload(alloc: Global) -> Result<RequestHeader> {
 }
 
 /// The session of an application, with its modules.
-fn held(app: &App<Changes>, alloc: Global) -> Result<Session<NoModules>> {
+fn shown(app: &App<Changes>, alloc: Global) -> Result<Shown> {
     let modules = app.init_downstream_modules(alloc)?;
     Ok(Session::new_h1_with_modules(alloc, HttpSession::new_http1(alloc), modules))
 }
@@ -43,18 +50,30 @@ fn peer(alloc: Global) -> Result<ScriptLink> {
 fn begun_with(
     app: &App<Changes>,
     alloc: Global,
-    session: Session<NoModules>,
+    mut session: Shown,
     client: HttpSession,
     peer: ScriptLink,
     head: RequestHeader,
-) -> Option<Exchange> {
-    let ctx = app.new_ctx();
-    match begin::<App<Changes>, ScriptLink, Client>(app, alloc, session, ctx, client, peer, head) {
-        Ok(begun) => Some(begun),
+) -> Option<Held> {
+    let mut ctx = app.new_ctx();
+    match begin::<App<Changes>, ScriptLink, Client>(
+        app,
+        alloc,
+        &mut session,
+        &mut ctx,
+        client,
+        peer,
+        head,
+    ) {
+        Ok(exchange) => {
+            Some(Held {
+                exchange,
+                session,
+                ctx,
+            })
+        }
         Err(
             Unbegun {
-                session: _session,
-                ctx: _ctx,
                 client: _,
                 link: _,
                 why: _,
@@ -64,78 +83,48 @@ fn begun_with(
 }
 
 /// The same of the upload.
-fn begun(app: &App<Changes>, alloc: Global) -> Result<Option<Exchange>> {
+fn begun(app: &App<Changes>, alloc: Global) -> Result<Option<Held>> {
     let head = upload(alloc)?;
     let client = HttpSession::begun_http1(alloc, upload(alloc)?, Framing::Length(4));
     let peer = peer(alloc)?;
-    let session = held(app, alloc)?;
+    let session = shown(app, alloc)?;
     Ok(begun_with(app, alloc, session, client, peer, head))
 }
 
-/// Takes turns, each of which is given the application, the session and the context, until the
-/// exchange ends, both links are silent, or 100 were taken. The last answer.
-fn run(
-    begun: Exchange,
-    app: &App<Changes>,
-    alloc: Global,
-    client: &mut Client,
-) -> (Exchange, Step) {
+/// Takes turns until the exchange ends, both links are silent, or 100 were taken. The last answer.
+fn run(held: &mut Held, app: &App<Changes>, alloc: Global, client: &mut Client) -> Step {
     let mut schedule = ListSchedule::new(Vec::new(alloc));
-    let mut held = begun;
     for _ in 0..100 {
-        let Begun {
-            exchange,
-            session,
-            ctx,
-        } = held;
-        let Turned {
-            exchange,
-            session,
-            ctx,
-            turn: Turn { step, branch: _ },
-        } = turn(exchange, app, session, ctx, client, &mut schedule);
-        held = Begun {
-            exchange,
-            session,
-            ctx,
-        };
-        match step {
+        let turn = held.exchange.turn(app, &mut held.session, &mut held.ctx, client, &mut schedule);
+        match turn.step {
             Step::Moved | Step::Waited(Pause::NotReady) => {}
-            Step::Waited(Pause::Silent) | Step::Finished | Step::Failed(_) => return (held, step),
+            Step::Waited(Pause::Silent) | Step::Finished | Step::Failed(_) => return turn.step,
         }
     }
-    (held, Step::Moved)
+    Step::Moved
 }
 
 /// What an exchange leaves: whether its link may be kept, whether its modules stood, how many calls
 /// were entered, and whether the peer was sent that text.
-fn left(held: Exchange, sent: &str) -> (bool, bool, usize, bool) {
-    let Begun {
-        exchange,
-        session,
-        ctx: _ctx,
-    } = held;
-    let may_keep = exchange.may_keep();
-    let stood = exchange.modules_stood();
-    let entered = session.phase_log().len();
+fn left(held: &Held, sent: &str) -> (bool, bool, usize, bool) {
     (
-        may_keep,
-        stood,
-        entered,
-        has_taken(&exchange.into_link(), sent),
+        held.exchange.may_keep(),
+        held.exchange.modules_stood(),
+        held.session.phase_log().len(),
+        has_taken(held.exchange.link(), sent),
     )
 }
 
 /// Whether the exchange finishes with these texts and eight calls, and its link may be kept.
 fn finishes(
-    begun: Exchange,
+    held: &mut Held,
     app: &App<Changes>,
     alloc: Global,
     client: &mut Client,
     sent: &str,
     written: &str,
 ) -> bool {
-    let (held, last) = run(begun, app, alloc, client);
+    let last = run(held, app, alloc, client);
     left(held, sent) == (true, true, 8, true)
         && last == Step::Finished
         && has_taken(client.link(), written)
@@ -147,7 +136,7 @@ fn comes_to(does: Does, alloc: Global, sent: &str, written: &str) -> Result<bool
     let script = &[Gives::Text("ab"), Gives::Text("cd")];
     let mut client: Client = Connection::new(alloc, link(alloc, script)?);
     match begun(&app, alloc)? {
-        Some(begun) => Ok(finishes(begun, &app, alloc, &mut client, sent, written)),
+        Some(mut held) => Ok(finishes(&mut held, &app, alloc, &mut client, sent, written)),
         None => Ok(false),
     }
 }

@@ -14,10 +14,10 @@ fn only(alloc: Global, branch: Branch) -> Result<ListSchedule> {
     Ok(ListSchedule::new(branches))
 }
 
-/// What comes of an upload and a download of six chunks each, by a schedule that names that
+/// What comes of an upload and a download of twelve chunks each, by a schedule that names that
 /// branch alone.
 fn both(alloc: Global, branch: Branch) -> Result<Ending> {
-    let chunks = Gives::Times(6, "3\r\nabc\r\n");
+    let chunks = Gives::Times(12, "3\r\nabc\r\n");
     let last = Gives::Text("0\r\n\r\n");
     let request = "POST /c HTTP/1.1\r\nHost: h.example\r\nTransfer-Encoding: chunked\r\n\r\n";
     let answer = "HTTP/1.1 200 OK\r\nTransfer-Encoding: chunked\r\n\r\n";
@@ -25,8 +25,10 @@ fn both(alloc: Global, branch: Branch) -> Result<Ending> {
         from_client: &[Gives::Text(request), chunks, last],
         from_peer: &[Gives::Text(answer), chunks, last],
         written: "HTTP/1.1 200 OK\r\ntransfer-encoding: chunked\r\n\r\n\
+            3\r\nabc\r\n3\r\nabc\r\n3\r\nabc\r\n3\r\nabc\r\n3\r\nabc\r\n3\r\nabc\r\n\
             3\r\nabc\r\n3\r\nabc\r\n3\r\nabc\r\n3\r\nabc\r\n3\r\nabc\r\n3\r\nabc\r\n0\r\n\r\n",
         sent: "POST /c HTTP/1.1\r\nhost: h.example\r\ntransfer-encoding: chunked\r\n\r\n\
+            3\r\nabc\r\n3\r\nabc\r\n3\r\nabc\r\n3\r\nabc\r\n3\r\nabc\r\n3\r\nabc\r\n\
             3\r\nabc\r\n3\r\nabc\r\n3\r\nabc\r\n3\r\nabc\r\n3\r\nabc\r\n3\r\nabc\r\n0\r\n\r\n",
     };
     exchange_by(alloc, case, 0, only(alloc, branch)?)

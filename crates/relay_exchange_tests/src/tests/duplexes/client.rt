@@ -1,5 +1,5 @@
 //! A client of these tests.
-ghost use Rattle.std.specs.Prelude.{◌≡◌, ◌++◌, [], false, true, None, Some, OnOk, OnErr, IsTrue};
+ghost use Rattle.std.specs.Prelude.{◌≡◌, ◌++◌, ◌==◌, ◌&&◌, [], false, true, not, length, None, Some, OnOk, OnErr, IsTrue};
 ghost use Rattle.std.specs.List.{flat_map, list_any};
 ghost use Rattle.relay_links.specs.Count.{last_count};
 ghost use Rattle.relay_links.specs.MuteLink.{mute_state, mute_start};
@@ -39,10 +39,12 @@ fn piece(bytes: &'static str, end: bool) -> Piece
     }
 }
 
-/// The next bytes, or the end.
-fn next_bytes(pieces: &mut Vec<&'static str>) -> (&'static str, bool) {
+/// The next bytes, or the end, also where there are none in a piece.
+fn next_bytes(pieces: &mut Vec<&'static str>) -> (&'static str, bool)
+    ensures { ((length result.0.now == 0) && not result.1) ≡ false }
+{
     match pieces.pop() {
-        Some(bytes) => (bytes, false),
+        Some(bytes) => (bytes, bytes.is_empty()),
         None => ("", true),
     }
 }

@@ -65,11 +65,11 @@ fn relays_lengths_and_may_keep_its_link(rt: HostRuntime) {
     assert!(rt; relays(rt.alloc()) == Ok(true));
 }
 
-/// Whether a body in chunks is read that comes byte by byte.
+/// Whether a body in chunks is read that comes byte by byte over a link that stays open.
 fn reads_slowly(alloc: Global) -> Result<bool> {
     let text =
         "HTTP/1.1 200 OK\r\ntransfer-encoding: chunked\r\n\r\n2\r\nab\r\n1\r\nc\r\n0\r\n\r\n";
-    let mut client = H1Client::new(alloc, link(alloc, &[Gives::ByteByByte(text), Gives::End])?);
+    let mut client = H1Client::new(alloc, link(alloc, &[Gives::ByteByByte(text)])?);
     let told = reads(
         alloc,
         &mut client,

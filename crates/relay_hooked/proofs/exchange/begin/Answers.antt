@@ -1,12 +1,9 @@
 -- An exchange begins once its head was queued and what was kept of the body has passed its filter;
 -- it is not begun where the head is refused.
-use Rattle.std.proofs.Common.{◌≡◌, false, [], Option, Some, None, Err, ◌↔◌, inr, refl, sym, ap, subst, ◌∙◌}
+use Rattle.std.proofs.Common.{◌≡◌, false, [], Option, Some, inr, refl, sym, ap, subst, ◌∙◌}
 use Rattle.relay_tasks.specs.declared.error.Fail.{Fail}
-use Rattle.relay_tasks.specs.declared.error.Fail.TheVariants as fail
 use Rattle.relay_links.specs.Link.{IsHandedOut}
-use Rattle.relay_h1.specs.Framing.{request_framing}
 use Rattle.relay_session.specs.Reading.{is_body_done}
-use Rattle.relay_session.specs.TaskWire.{bad_framing}
 use Rattle.relay_core.specs.Piece.{put_of}
 use Rattle.relay_sides.specs.Client.{begun_past}
 use Rattle.relay_peer.specs.Peer as peer
@@ -17,12 +14,9 @@ use Rattle.relay_exchange.specs.declared.exchange.Stage.TheVariants as stage
 use Rattle.relay_exchange.specs.Exchange.{put_first}
 use Rattle.relay_exchange.proofs.TurnLemmas.{begun}
 use Rattle.relay_filters.specs.Hooked.{is_lost, shown_done}
-use Rattle.relay_filters.specs.declared.rested.Rested.{Rested}
-use Rattle.relay_hooked.specs.Begins.{CallsOnce, IsRefusedFor, IsUnbegun}
 use Rattle.relay_hooked.specs.Exchange.{IsUnderWay, SideHolds}
 use Rattle.relay_hooked.specs.Head.{side_state}
 use Rattle.relay_hooked.specs.Sides.{PeerHolds, PeerSideBlames}
-use Rattle.relay_hooked.specs.declared.exchange.Unbegun.{Unbegun}
 use Rattle.relay_hooked.proofs.BeginLemmas.{grown, refused_first, refused_later}
 use Rattle.relay_hooked.proofs.TurnLemmas.{under_way}
 use Rattle.relay_hooked.proofs.exchange.begin.Goals as goal
@@ -33,7 +27,7 @@ returns-in-Ok-clause-begins g c =
     let state = g.L.ByteLink.state in
     let start_at = g.L.ByteLink.start in
     let side = c.in-Ok.field-0.down in
-    let log = c.in-Ok.field-0.session.seen.log in
+    let log = c.put_first.new.session.seen.log in
     let begins = c.in-Ok.ensures.begun in
     let up = c.write_request_header.new.self in
     let value = c.is_body_done-body_done.ensures.value in
@@ -45,14 +39,14 @@ returns-in-Ok-clause-begins g c =
     let link = g.F.Front.state front in
     let ahead = g.F.Front.ahead front in
     let past = begun_past came (put_of false c.in-Ok.field-0.piece) in
-    let Begins : Exchange Rested (PeerSide g.row.L.Denot) → Type 0 = λ x.
+    let Begins : Exchange (PeerSide g.row.L.Denot) → Type 0 = λ x.
     IsUnderWay state start_at s (record { came = came; written = []; got = []; sent = [] }) link
-    ahead log (record { exchange = x }) in
+    ahead log (record { down = side; exchange = x }) in
     subst Begins (sym c.begin-exchange.ensures.exact)
     (under_way state start_at s link ahead log false
     (record {
+      down = side;
       exchange = record {
-        down = side;
         up = up;
         duplex = c.begin-exchange.result.duplex;
         stage = stage.Head;
@@ -60,7 +54,8 @@ returns-in-Ok-clause-begins g c =
     }) past none_passed
     (begun (SideHolds link ahead log s side) (PeerHolds state start_at s up)
     (PeerSideBlames state start_at s up) c.is_body_done-body_done.result
-    (put_first (Some c.in-Ok.field-0.piece)) (side_state log side) (peer.state_of up) past none_passed
+    (put_first (Some c.in-Ok.field-0.piece)) (side_state log side) (peer.state_of up) past
+    none_passed
     (record {
       down_holds = c.in-Ok.ensures.begins front s came called behind heads;
       up_holds = c.in_default.ensures.begins s own none c.new-peer.ensures.fresh reused
@@ -87,49 +82,25 @@ returns-in-Ok-clause-begins g c =
     (c.begin-exchange.ensures.sound (side_state log side) done))
     (ap (λ (o : Option Fail). is_lost o) begins.goes_on) begins.untold)
 
--- its side is the one that was begun
-pub returns-in-Ok-clause-calls : goal.returns-in-Ok-clause-calls
-returns-in-Ok-clause-calls g c =
-    subst (λ (x : Exchange Rested (PeerSide g.row.L.Denot)).
-    CallsOnce c.args.session c.args.ctx c.args.client
-    (g.SV.ProxyHttp.allows c.args.app.now) (g.SV.ProxyHttp.mark_of c.args.app.now)
-    c.in-Ok.field-0.session c.in-Ok.field-0.ctx x.down.inner.session) (sym c.begin-exchange.ensures.exact)
-    c.in-Ok.ensures.calls
-
+-- its log has grown by its first call
 pub returns-in-Ok-clause-once : goal.returns-in-Ok-clause-once
 returns-in-Ok-clause-once g c =
-    grown c.args.session c.args.ctx c.args.client _ _ c.in-Ok.field-0.session c.in-Ok.field-0.ctx
-    c.in-Ok.field-0.down.inner.session c.in-Ok.ensures.calls
+    grown c.args.session.now c.args.ctx.now c.args.client _ _ c.put_first.new.session
+    c.put_first.new.ctx c.in-Ok.field-0.down.inner.session c.in-Ok.ensures.calls
 
 -- one whose head was refused has not
 pub returns-in-Err-clause-refused : goal.returns-in-Err-clause-refused
 returns-in-Err-clause-refused g c =
-    refused_first c.args.session c.args.ctx c.args.client
-    (g.SV.ProxyHttp.allows c.args.app.now) (g.SV.ProxyHttp.mark_of c.args.app.now) c.args.head
-    c.into_link.result c.in-Err.why c.in-Err.ensures.refused
+    refused_first c.args.session.now.seen.log c.args.client c.args.head c.into_link.result
+    c.in-Err.why c.in-Err.ensures.refused
 
 -- nor has one of which nothing could be put first
 pub returns-in-Err-put_first-clause-refused : goal.returns-in-Err-put_first-clause-refused
 returns-in-Err-put_first-clause-refused g c =
-    let x = c.in-Err-put_first.unput in
-    subst (λ (y : Unbegun g.row.SV-Modules.Denot g.row.SV-CTX.Denot g.row.L.Denot).
-    IsRefusedFor {M = g.row.SV-Modules.Denot} {C = g.row.SV-CTX.Denot} {L = g.row.L.Denot} (Err y)
-    (fail.Error bad_framing) c.args.session.seen.log
-    ↔ (request_framing c.args.head ≡ None)) (sym c.with_link.ensures)
-    (refused_later c.args.session c.args.ctx c.args.client
+    refused_later c.args.session.now c.args.ctx.now c.args.client
     (g.SV.ProxyHttp.allows c.args.app.now) (g.SV.ProxyHttp.mark_of c.args.app.now) c.args.head
-    (record {
-      session = x.session;
-      ctx = x.ctx;
-      client = x.client;
-      link = c.into_link-in-Err-put_first.result;
-      why = x.why;
-    }) c.in-Err-put_first.ensures.causes
-    (λ none. (let wrong = c.in_default.ensures.refused.1 none in absurd (cc))))
+    c.put_first.new.session c.put_first.new.ctx _ c.in-Err-put_first.ensures.causes
+    (λ none. (let wrong = c.in_default.ensures.refused.1 none in absurd (cc)))
 
 pub returns-in-Err-put_first-clause-causes : goal.returns-in-Err-put_first-clause-causes
-returns-in-Err-put_first-clause-causes g c =
-    subst (λ (y : Unbegun g.row.SV-Modules.Denot g.row.SV-CTX.Denot g.row.L.Denot).
-    IsUnbegun c.args.session c.args.ctx c.args.client (g.SV.ProxyHttp.allows c.args.app.now)
-    (g.SV.ProxyHttp.mark_of c.args.app.now) c.args.head y) (sym c.with_link.ensures)
-    (inr c.in-Err-put_first.ensures.causes)
+returns-in-Err-put_first-clause-causes g c = inr c.in-Err-put_first.ensures.causes

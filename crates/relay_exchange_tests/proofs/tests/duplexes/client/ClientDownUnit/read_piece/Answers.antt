@@ -1,8 +1,8 @@
 -- What the piece puts is kept behind what was put before.
-use Rattle.std.proofs.Common.{false, List, ◌++◌, refl, sym, ap, ◌∙◌}
+use Rattle.std.proofs.Common.{◌≡◌, ℕ, Bool, false, true, not, ◌&&◌, List, ◌++◌, ◌==◌, length, Some, is_some, inl, refl, subst, sym, ap, ◌∙◌}
 use Rattle.relay_tasks.specs.declared.task.HttpTask.{HttpTask}
 use Rattle.relay_core.specs.declared.piece.Piece.{Piece}
-use Rattle.relay_core.specs.Piece.{put_of}
+use Rattle.relay_core.specs.Piece.{put_of, task_put_of}
 use Rattle.relay_exchange_tests.proofs.tests.duplexes.client.ClientDownUnit.read_piece.Goals as goal
 
 -- the piece is noted
@@ -28,3 +28,17 @@ returns-in-Ok-clause-goes c = λ s p holds. record {
   is_closing = refl;
   blamed = λ e none. cc;
 }
+
+-- a piece with bytes, or with the end, puts a task
+puts_some : (bytes : List ℕ) (end : Bool) → ((length bytes == 0) && not end) ≡ false
+    → is_some (task_put_of false
+    (record { bytes = Some bytes; upstream_end = end; client_end = end })) ≡ true
+puts_some bytes end isnt = rw isnt refl
+
+-- each piece puts one
+pub returns-in-Ok-clause-puts : goal.returns-in-Ok-clause-puts
+returns-in-Ok-clause-puts c = λ s p holds piece is.
+    let same : c.piece-in-Ok.result ≡ piece = cc in
+    inl (subst (λ (x : Piece). is_some (task_put_of false x) ≡ true)
+    (sym c.piece-in-Ok.ensures ∙ same)
+    (puts_some c.next_bytes.result.0.now c.next_bytes.result.1 c.next_bytes.ensures))
