@@ -1,0 +1,9 @@
+pub mod Front
+pub mod Item
+pub mod ItemPlace
+pub mod MessageFault
+pub mod MessageLink
+pub mod MessageScript
+pub mod ScriptCustom
+pub mod ScriptMessages
+pub mod SendPlace
