@@ -1,6 +1,6 @@
 //! An upload whose first link fails at any of its calls, beside a second peer that answers: what
 //! was read of the body is sent again from its first byte.
-use super::support::{Sweep, reports};
+use super::support::{ANSWERING, ASKING, HEADED, LEFT, SENT_WHOLE, SLOWLY, Sweep};
 use std::alloc::{AllocError, Global};
 
 /// Both bodies pass in turn, so that a link fails at each stage of them.
@@ -15,32 +15,21 @@ const TURNS: &str = r#"
     "DownRead","UpRead","DownTake","DownWrite","UpTake","UpWrite"
 "#;
 
-/// What follows the list of the first link: its end, and a second link over which all passes.
-const SECOND: &str = "{\"after\":0}]},{\"name\":\"b\",\"read\":[{\"after\":77},\
-    {\"text\":\"HTTP/1.1 100 Continue\\r\\n\\r\\n\"},\
-    {\"text\":\"HTTP/1.1 200 OK\\r\\nContent-Length: 2\\r\\n\\r\\nhi\"}]}]}";
-
-/// A request that waits for leave to send its body, byte by byte, before the bytes of the first
-/// peer.
+/// A request that waits for leave, before the bytes of the first peer.
 const READS: Sweep = Sweep {
     schedule: TURNS,
-    front: "],\"client\":[{\"text\":\"PUT /e HTTP/1.1\\r\\nHost: h.example\\r\\n\
-        Expect: 100-continue\\r\\nContent-Length: 5\\r\\n\\r\\n\"},{\"after\":25},\
-        {\"text\":\"h\"},{\"text\":\"e\"},{\"text\":\"l\"},{\"text\":\"l\"},{\"text\":\"o\"}],\
-        \"peers\":[{\"name\":\"a\",\"read\":[{\"after\":77},",
+    client: [ASKING, SLOWLY],
+    front: "\"peers\":[{\"name\":\"a\",\"read\":[{\"after\":77},",
     fault: "{\"fault\":\"Read\",\"retry\":true},",
-    back: SECOND,
+    back: "{\"after\":0}]},{\"name\":\"b\",\"read\":[",
+    last: ANSWERING,
 };
 
 /// The leave and the answer of the first peer.
 const FIRST: &[u8] = b"HTTP/1.1 100 Continue\r\n\r\n\
     HTTP/1.1 200 OK\r\nContent-Length: 2\r\n\r\nno";
 
-/// How many bytes its leave has, the leave and the final head, and all.
-const LEFT: usize = 25;
-
-const HEADED: usize = 63;
-
+/// How many bytes these are.
 const ANSWERED: usize = 65;
 
 /// The second peer answers behind a first that gave no leave.
@@ -55,8 +44,7 @@ const BY_SECOND: [&str; 9] = [
     "sent ~PUT /e HTTP/1.1\\r\\nhost: h.example\\r\\nexpect: 100-continue\\r\\n\
         content-length: 5\\r\\n\\r\\nhello",
     "attempt 2 b reused no kept yes error -",
-    "sent PUT /e HTTP/1.1\\r\\nhost: h.example\\r\\nexpect: 100-continue\\r\\n\
-        content-length: 5\\r\\n\\r\\nhello",
+    SENT_WHOLE,
 ];
 
 /// The same behind a first that did.
@@ -71,8 +59,7 @@ const BY_BOTH: [&str; 9] = [
     "sent ~PUT /e HTTP/1.1\\r\\nhost: h.example\\r\\nexpect: 100-continue\\r\\n\
         content-length: 5\\r\\n\\r\\nhello",
     "attempt 2 b reused no kept yes error -",
-    "sent PUT /e HTTP/1.1\\r\\nhost: h.example\\r\\nexpect: 100-continue\\r\\n\
-        content-length: 5\\r\\n\\r\\nhello",
+    SENT_WHOLE,
 ];
 
 /// The first answer breaks off behind its head: no other peer is asked.
@@ -98,8 +85,7 @@ const BY_FIRST: [&str; 8] = [
     "written HTTP/1.1 100 Continue\\r\\n\\r\\n\
         HTTP/1.1 200 OK\\r\\ncontent-length: 2\\r\\n\\r\\nno",
     "attempt 1 a reused no kept yes error -",
-    "sent PUT /e HTTP/1.1\\r\\nhost: h.example\\r\\nexpect: 100-continue\\r\\n\
-        content-length: 5\\r\\n\\r\\nhello",
+    SENT_WHOLE,
     "log new_ctx ok",
 ];
 
@@ -130,16 +116,13 @@ fn tries_again_at_every_read_of_the_first_link(rt: HostRuntime) -> Result<(), Al
 /// the body takes, and ends.
 const WRITES: Sweep = Sweep {
     schedule: TURNS,
-    front: "],\"client\":[{\"text\":\"PUT /e HTTP/1.1\\r\\nHost: h.example\\r\\n\
-        Expect: 100-continue\\r\\nContent-Length: 5\\r\\n\\r\\n\"},{\"after\":25},\
-        {\"text\":\"h\"},{\"text\":\"e\"},{\"text\":\"l\"},{\"text\":\"l\"},{\"text\":\"o\"}],\
-        \"peers\":[{\"name\":\"a\",\"read\":[{\"after\":77},\
+    client: [ASKING, SLOWLY],
+    front: "\"peers\":[{\"name\":\"a\",\"read\":[{\"after\":77},\
         {\"text\":\"HTTP/1.1 100 Continue\\r\\n\\r\\n\"},{\"wait\":100},{\"end\":true}],\
         \"write\":[",
     fault: "{\"fault\":\"Write\",\"retry\":true},",
-    back: "{\"take\":5}]},{\"name\":\"b\",\"read\":[{\"after\":77},\
-        {\"text\":\"HTTP/1.1 100 Continue\\r\\n\\r\\n\"},\
-        {\"text\":\"HTTP/1.1 200 OK\\r\\nContent-Length: 2\\r\\n\\r\\nhi\"}]}]}",
+    back: "{\"take\":5}]},{\"name\":\"b\",\"read\":[",
+    last: ANSWERING,
 };
 
 /// What a peer is sent: a head of 77 bytes, and the body.
@@ -193,8 +176,7 @@ fn tries_again_at_write(alloc: Global, call: usize) -> Result<bool, AllocError> 
         "attempt 1 a reused no kept no error WriteError Upstream true",
         sent.as_str(),
         "attempt 2 b reused no kept yes error -",
-        "sent PUT /e HTTP/1.1\\r\\nhost: h.example\\r\\nexpect: 100-continue\\r\\n\
-        content-length: 5\\r\\n\\r\\nhello",
+        SENT_WHOLE,
     ];
     WRITES.reports_at_write(alloc, call, &lines)
 }
@@ -208,8 +190,7 @@ const UNANSWERED: [&str; 8] = [
     "written HTTP/1.1 100 Continue\\r\\n\\r\\nHTTP/1.1 502 Bad Gateway\\r\\nserver: Pingora\\r\\n\
         content-length: 0\\r\\ncache-control: private, no-store\\r\\n\\r\\n",
     "attempt 1 a reused no kept no error ConnectionClosed Upstream false",
-    "sent PUT /e HTTP/1.1\\r\\nhost: h.example\\r\\nexpect: 100-continue\\r\\n\
-        content-length: 5\\r\\n\\r\\nhello",
+    SENT_WHOLE,
     "log new_ctx ok",
 ];
 
@@ -227,14 +208,17 @@ fn tries_again_at_every_write_to_the_first_link(rt: HostRuntime) -> Result<(), A
 /// once.
 const CHUNKS: Sweep = Sweep {
     schedule: TURNS,
-    front: "],\"client\":[{\"text\":\"PUT /c HTTP/1.1\\r\\nHost: h.example\\r\\n\
-        Transfer-Encoding: chunked\\r\\n\\r\\n\"},{\"text\":\"1\\r\\nh\\r\\n\"},\
-        {\"text\":\"1\\r\\ne\\r\\n\"},{\"text\":\"1\\r\\nl\\r\\n\"},{\"text\":\"1\\r\\nl\\r\\n\"},\
-        {\"text\":\"1\\r\\no\\r\\n\"},{\"text\":\"0\\r\\n\\r\\n\"}],\
-        \"peers\":[{\"name\":\"a\",\"read\":[",
+    client: [
+        "{\"text\":\"PUT /c HTTP/1.1\\r\\nHost: h.example\\r\\n\
+            Transfer-Encoding: chunked\\r\\n\\r\\n\"},",
+        "{\"text\":\"1\\r\\nh\\r\\n\"},{\"text\":\"1\\r\\ne\\r\\n\"},\
+            {\"text\":\"1\\r\\nl\\r\\n\"},{\"text\":\"1\\r\\nl\\r\\n\"},\
+            {\"text\":\"1\\r\\no\\r\\n\"},{\"text\":\"0\\r\\n\\r\\n\"}],",
+    ],
+    front: "\"peers\":[{\"name\":\"a\",\"read\":[",
     fault: "{\"fault\":\"Read\",\"retry\":true},",
-    back: "{\"after\":0}]},{\"name\":\"b\",\"read\":[\
-        {\"text\":\"HTTP/1.1 200 OK\\r\\nContent-Length: 2\\r\\n\\r\\nhi\"}]}]}",
+    back: "{\"after\":0}]},{\"name\":\"b\",\"read\":[",
+    last: "{\"text\":\"HTTP/1.1 200 OK\\r\\nContent-Length: 2\\r\\n\\r\\nhi\"}]}]}",
 };
 
 /// The head of the first peer's answer.

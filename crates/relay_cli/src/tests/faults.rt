@@ -1,5 +1,5 @@
 //! An upload that waits for leave, over two links of which one fails at any of its calls.
-use super::support::{Sweep, reports};
+use super::support::{ANSWERING, ASKING, HEADED, LEFT, SENT_WHOLE, SLOWLY, Sweep, reports};
 use std::alloc::AllocError;
 
 /// The head of the client's request, whose body comes once there is leave.
@@ -15,29 +15,27 @@ const RELAYED: [&str; 8] = [
     "written HTTP/1.1 100 Continue\\r\\n\\r\\n\
         HTTP/1.1 200 OK\\r\\ncontent-length: 2\\r\\n\\r\\nhi",
     "attempt 1 a reused no kept yes error -",
-    "sent PUT /e HTTP/1.1\\r\\nhost: h.example\\r\\nexpect: 100-continue\\r\\n\
-        content-length: 5\\r\\n\\r\\nhello",
+    SENT_WHOLE,
     "log new_ctx ok",
 ];
 
 /// A read of the client's head, and one of its body.
 const HEAD_READS: Sweep = Sweep {
     schedule: "",
-    front: "],\"client\":[",
+    client: ["", ""],
+    front: "",
     fault: "{\"fault\":\"Read\"},",
-    back: "{\"after\":25},{\"text\":\"hello\"}],\"peers\":[{\"name\":\"a\",\"read\":[\
-        {\"after\":77},{\"text\":\"HTTP/1.1 100 Continue\\r\\n\\r\\n\"},\
-        {\"text\":\"HTTP/1.1 200 OK\\r\\nContent-Length: 2\\r\\n\\r\\nhi\"}]}]}",
+    back: "{\"after\":25},{\"text\":\"hello\"}],\"peers\":[{\"name\":\"a\",\"read\":[",
+    last: ANSWERING,
 };
 
 const BODY_READS: Sweep = Sweep {
     schedule: "",
-    front: "],\"client\":[{\"text\":\"PUT /e HTTP/1.1\\r\\nHost: h.example\\r\\n\
-        Expect: 100-continue\\r\\nContent-Length: 5\\r\\n\\r\\n\"},{\"after\":25},",
+    client: [ASKING, ""],
+    front: "",
     fault: "{\"fault\":\"Read\"},",
-    back: "{\"after\":0}],\"peers\":[{\"name\":\"a\",\"read\":[\
-        {\"after\":77},{\"text\":\"HTTP/1.1 100 Continue\\r\\n\\r\\n\"},\
-        {\"text\":\"HTTP/1.1 200 OK\\r\\nContent-Length: 2\\r\\n\\r\\nhi\"}]}]}",
+    back: "{\"after\":0}],\"peers\":[{\"name\":\"a\",\"read\":[",
+    last: ANSWERING,
 };
 
 /// What is reported where the head does not come whole, and where the body does not.
@@ -79,21 +77,16 @@ fn fails_at_every_read_of_the_client(rt: HostRuntime) -> Result<(), AllocError> 
 /// A read of the peer.
 const PEER_READS: Sweep = Sweep {
     schedule: "",
-    front: "],\"client\":[{\"text\":\"PUT /e HTTP/1.1\\r\\nHost: h.example\\r\\n\
-        Expect: 100-continue\\r\\nContent-Length: 5\\r\\n\\r\\n\"},{\"after\":25},\
-        {\"text\":\"h\"},{\"text\":\"e\"},{\"text\":\"l\"},{\"text\":\"l\"},{\"text\":\"o\"}],\
-        \"peers\":[{\"name\":\"a\",\"read\":[{\"after\":77},",
+    client: [ASKING, SLOWLY],
+    front: "\"peers\":[{\"name\":\"a\",\"read\":[{\"after\":77},",
     fault: "{\"fault\":\"Read\"},",
     back: "{\"after\":0}]}]}",
+    last: "",
 };
 
-/// The leave, of 25 bytes, and the answer, whose head has 38.
+/// The leave and the answer.
 const ANSWER: &[u8] = b"HTTP/1.1 100 Continue\r\n\r\n\
     HTTP/1.1 200 OK\r\nContent-Length: 2\r\n\r\nhi";
-
-const LEFT: usize = 25;
-
-const HEADED: usize = 63;
 
 /// What the client is written before there is leave, behind that, and behind the final head.
 const NO_LEAVE: [&str; 7] = [
@@ -158,13 +151,11 @@ fn fails_at_every_read_of_the_peer(rt: HostRuntime) -> Result<(), AllocError> {
 /// A write to the client.
 const CLIENT_WRITES: Sweep = Sweep {
     schedule: "",
-    front: "],\"client\":[{\"text\":\"PUT /e HTTP/1.1\\r\\nHost: h.example\\r\\n\
-        Expect: 100-continue\\r\\nContent-Length: 5\\r\\n\\r\\n\"},{\"after\":25},\
-        {\"text\":\"hello\"}],\"client_write\":[",
+    client: [ASKING, "{\"text\":\"hello\"}],"],
+    front: "\"client_write\":[",
     fault: "{\"fault\":\"Write\"},",
-    back: "{\"take\":5}],\"peers\":[{\"name\":\"a\",\"read\":[{\"after\":77},\
-        {\"text\":\"HTTP/1.1 100 Continue\\r\\n\\r\\n\"},\
-        {\"text\":\"HTTP/1.1 200 OK\\r\\nContent-Length: 2\\r\\n\\r\\nhi\"}]}]}",
+    back: "{\"take\":5}],\"peers\":[{\"name\":\"a\",\"read\":[",
+    last: ANSWERING,
 };
 
 /// What is reported where the client does not take all.
@@ -201,14 +192,11 @@ fn fails_at_every_write_to_the_client(rt: HostRuntime) -> Result<(), AllocError>
 /// A write to the peer, which gives its final answer whether or not the body came.
 const PEER_WRITES: Sweep = Sweep {
     schedule: "",
-    front: "],\"client\":[{\"text\":\"PUT /e HTTP/1.1\\r\\nHost: h.example\\r\\n\
-        Expect: 100-continue\\r\\nContent-Length: 5\\r\\n\\r\\n\"},{\"after\":25},\
-        {\"text\":\"h\"},{\"text\":\"e\"},{\"text\":\"l\"},{\"text\":\"l\"},{\"text\":\"o\"}],\
-        \"peers\":[{\"name\":\"a\",\"write\":[",
+    client: [ASKING, SLOWLY],
+    front: "\"peers\":[{\"name\":\"a\",\"write\":[",
     fault: "{\"fault\":\"Write\"},",
-    back: "{\"take\":5}],\"read\":[{\"after\":77},\
-        {\"text\":\"HTTP/1.1 100 Continue\\r\\n\\r\\n\"},\
-        {\"text\":\"HTTP/1.1 200 OK\\r\\nContent-Length: 2\\r\\n\\r\\nhi\"}]}]}",
+    back: "{\"take\":5}],\"read\":[",
+    last: ANSWERING,
 };
 
 /// The request ends where a write of its head fails.

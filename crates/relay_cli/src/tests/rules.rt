@@ -13,9 +13,9 @@ fn refusal(alloc: Global, hooks: &str) -> Result<Option<ScriptError>, AllocError
     }
 }
 
-/// Rules that are taken; one of each action that stands on such hooks alone, as it is written; and
+/// Rules that are taken; the greatest value that is kept, and one more; a rule of each action that stands on such hooks alone, as it is written; and
 /// these with a key that is not theirs, without one, and on a hook that is not theirs.
-const HOOKS: [(&str, Option<ScriptError>); 11] = [
+const HOOKS: [(&str, Option<ScriptError>); 13] = [
     (
         r#"[{"hook":"proxy_upstream_filter","do":"say","on":false}]"#,
         None,
@@ -23,6 +23,14 @@ const HOOKS: [(&str, Option<ScriptError>); 11] = [
     (
         r#"[{"hook":"purge_response_filter","do":"remove","name":"a"}]"#,
         None,
+    ),
+    (
+        r#"[{"hook":"persist_connection_context","do":"keep","value":4294967295}]"#,
+        None,
+    ),
+    (
+        r#"[{"hook":"persist_connection_context","do":"keep","value":4294967296}]"#,
+        Some(ScriptError::Refused),
     ),
     (
         r#"[{"hook":"response_filter","do":"status","code":418}]"#,

@@ -69,16 +69,66 @@ pub(super) fn reports(alloc: Global, parts: &[&str], lines: &[&str]) -> Result<b
     Ok(begins(report.as_str(), lines))
 }
 
-/// A script but for the items of one list, which come behind `front`, and the fault among them.
+/// The items of a client that asks for leave to send a body of five bytes, and waits for it; and
+/// the body, byte by byte.
+pub(super) const ASKING: &str = "{\"text\":\"PUT /e HTTP/1.1\\r\\nHost: h.example\\r\\n\
+    Expect: 100-continue\\r\\nContent-Length: 5\\r\\n\\r\\n\"},{\"after\":25},";
+
+pub(super) const SLOWLY: &str =
+    "{\"text\":\"h\"},{\"text\":\"e\"},{\"text\":\"l\"},{\"text\":\"l\"},{\"text\":\"o\"}],";
+
+/// The items of a peer that gives leave once the head came, and answers; and the end of a script.
+pub(super) const ANSWERING: &str =
+    "{\"after\":77},{\"text\":\"HTTP/1.1 100 Continue\\r\\n\\r\\n\"},\
+    {\"text\":\"HTTP/1.1 200 OK\\r\\nContent-Length: 2\\r\\n\\r\\nhi\"}]}]}";
+
+/// How many bytes the leave has, and the leave and the final head.
+pub(super) const LEFT: usize = 25;
+
+pub(super) const HEADED: usize = 63;
+
+/// The line of a peer that is sent all of the request.
+pub(super) const SENT_WHOLE: &str = "sent PUT /e HTTP/1.1\\r\\nhost: h.example\\r\\n\
+    expect: 100-continue\\r\\ncontent-length: 5\\r\\n\\r\\nhello";
+
+/// A script but for the items of one list, and the fault among them: the client's items come
+/// before `front`, and `back` and `last` behind the list.
 #[derive(Clone, Copy)]
 pub(super) struct Sweep {
     pub(super) schedule: &'static str,
+    pub(super) client: [&'static str; 2],
     pub(super) front: &'static str,
     pub(super) fault: &'static str,
     pub(super) back: &'static str,
+    pub(super) last: &'static str,
 }
 
 impl Sweep {
+    /// Whether the report begins so where the fault stands between these items.
+    fn reports_between(
+        &self,
+        alloc: Global,
+        before: &str,
+        behind: &str,
+        lines: &[&str],
+    ) -> Result<bool, AllocError> {
+        let [first, second] = self.client;
+        let parts = [
+            "{\"schedule\":[",
+            self.schedule,
+            "],\"client\":[",
+            first,
+            second,
+            self.front,
+            before,
+            self.fault,
+            behind,
+            self.back,
+            self.last,
+        ];
+        reports(alloc, &parts, lines)
+    }
+
     /// Whether the report begins so where a link that gives these bytes one by one fails before
     /// that of this number, or behind the last one.
     pub(super) fn reports_at_read(
@@ -91,16 +141,7 @@ impl Sweep {
         let (before, behind) = bytes.split_at(at.min(bytes.len()));
         let before = one_by_one(alloc, before)?;
         let behind = one_by_one(alloc, behind)?;
-        let parts = [
-            "{\"schedule\":[",
-            self.schedule,
-            self.front,
-            before.as_str(),
-            self.fault,
-            behind.as_str(),
-            self.back,
-        ];
-        reports(alloc, &parts, lines)
+        self.reports_between(alloc, before.as_str(), behind.as_str(), lines)
     }
 
     /// Whether the report begins so where a link that takes five bytes at a write fails at the
@@ -112,14 +153,6 @@ impl Sweep {
         lines: &[&str],
     ) -> Result<bool, AllocError> {
         let takes = repeated(alloc, "{\"take\":5},", at)?;
-        let parts = [
-            "{\"schedule\":[",
-            self.schedule,
-            self.front,
-            takes.as_str(),
-            self.fault,
-            self.back,
-        ];
-        reports(alloc, &parts, lines)
+        self.reports_between(alloc, takes.as_str(), "", lines)
     }
 }

@@ -205,6 +205,20 @@ fn hides_an_error(rt: HostRuntime) {
     expect(&rt, closed(app, alloc, Some(error), false), Ok(came));
 }
 
+/// The value that is kept of a GET whose hook keeps 5.
+fn kept_of(alloc: Global) -> Result<Option<u64>> {
+    let app = app_of(alloc, Hook::PersistConnectionContext, Action::Keep(5))?;
+    let mut session = unmade(alloc)?;
+    let mut ctx = app.new_ctx();
+    let place = run(&app, &mut session, &mut ctx, None, true);
+    release(session);
+    release(ctx);
+    match place {
+        Place::Ended(End::Kept(_, kept)) => Ok(kept),
+        Place::At(_) | Place::Lost | Place::Ended(End::Gone(_)) => Err(Fail::OutOfMemory),
+    }
+}
+
 #[test]
 fn keeps_a_value(rt: HostRuntime) {
     let alloc = rt.alloc();
@@ -224,4 +238,5 @@ fn keeps_a_value(rt: HostRuntime) {
         keeps: true,
     };
     expect(&rt, closed(app, alloc, None, true), Ok(came));
+    expect(&rt, kept_of(alloc), Ok(Some(5)));
 }

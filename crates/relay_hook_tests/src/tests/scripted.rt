@@ -10,13 +10,13 @@ use relay_tasks::{Error, ErrorType, Fail, Hook, MessageList, Result, RetryType};
 use std::alloc::{AllocError, Global};
 use std::process::Abort;
 
-/// The application with that rule alone.
+/// The application with that rule alone; out of memory where the rule is refused.
 pub(crate) fn app_of(alloc: Global, hook: Hook, action: Action) -> Result<ScriptProxy> {
     let mut rules = Vec::new(alloc);
     rules.push(Rule { hook, action }).map_err(AllocError::from)?;
     match CheckedRules::new(rules) {
         Ok(rules) => Ok(ScriptProxy::new(rules, peer())),
-        Err(_) => Err(refused()),
+        Err(_) => Err(Fail::OutOfMemory),
     }
 }
 

@@ -9,7 +9,7 @@ use http::Method;
 use http_header::{HOST, HeaderValue};
 use relay_h1::{Connection, Framing};
 use relay_hooks::{Defaults, HttpModule, Session};
-use relay_links::ScriptLink;
+use relay_links::{Put, ScriptLink};
 use relay_session::HttpSession;
 use relay_tasks::{Hook, Peer, PhaseLog, RequestHeader, Result};
 use std::alloc::Global;
@@ -63,10 +63,11 @@ pub(crate) fn hook_at(log: &PhaseLog, at: usize) -> Option<Hook> {
 
 /// Whether a client that takes all is written that text.
 pub(crate) fn is_written(alloc: Global, session: &mut HttpSession, want: &[u8]) -> bool {
+    if !session.has_pending() {
+        return want.is_empty();
+    }
     let link = ScriptLink::new(alloc, Vec::new(alloc), Vec::new(alloc));
     let mut client: Connection<ScriptLink, u8> = Connection::new(alloc, link);
-    if session.has_pending() {
-        let _put = session.write_pending(&mut client);
-    }
-    client.link().taken() == want
+    let put = session.write_pending(&mut client);
+    put == Put::Took(want.len()) && client.link().taken() == want
 }

@@ -53,6 +53,12 @@ fn gets_host(alloc: Global, uri: &'static str, want: &str) -> Result<bool> {
     Ok(set.is_ok() && host_is(&head, want.as_bytes()) && check_entry(&head).is_ok())
 }
 
+/// Why a head of that URI without Host gets none, if it gets none.
+fn host_refusal(alloc: Global, uri: &'static str) -> Result<Option<Fail>> {
+    let mut head = head_at(alloc, uri)?;
+    Ok(set_h1_host_from_authority(alloc, &mut head).err())
+}
+
 /// Whether a head of that URI without Host gets this one.
 fn gets_absent_host(alloc: Global, uri: &'static str, want: &str) -> Result<bool> {
     let mut head = head_at(alloc, uri)?;
@@ -64,8 +70,10 @@ fn gets_absent_host(alloc: Global, uri: &'static str, want: &str) -> Result<bool
 fn takes_host_from_the_authority(rt: HostRuntime) -> Checked {
     let uri = "https://authority.example/test";
     assert!(rt; gets_host(rt.alloc(), uri, "authority.example")?);
+    assert!(rt; gets_absent_host(rt.alloc(), "/test", "")?);
     let uri = "https://user@authority.example/test";
     assert!(rt; gets_absent_host(rt.alloc(), uri, "user@authority.example")?);
+    assert!(rt; host_refusal(rt.alloc(), uri)? == refused(Context::Userinfo));
     Ok(())
 }
 

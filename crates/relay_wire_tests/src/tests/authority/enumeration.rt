@@ -242,16 +242,16 @@ fn treats_hosts_as_the_plain_program(rt: HostRuntime) {
     assert!(rt; same_of_hosts(rt.alloc()));
 }
 
-fn same_without_host(alloc: Global, front: &str, number: usize) -> bool {
+fn same_target(alloc: Global, front: &str, number: usize, host: Option<&[u8]>) -> bool {
     match text_of(alloc, front, number) {
-        Ok(target) => target.is_empty() || same_beside(alloc, target.as_slice(), None),
+        Ok(target) => target.is_empty() || same_beside(alloc, target.as_slice(), host),
         Err(_) => false,
     }
 }
 
-fn same_behind(alloc: Global, front: &str) -> bool {
+fn same_behind(alloc: Global, front: &str, host: Option<&[u8]>) -> bool {
     for number in 0..UP_TO_FOUR {
-        if !same_without_host(alloc, front, number) {
+        if !same_target(alloc, front, number, host) {
             return false;
         }
     }
@@ -261,6 +261,12 @@ fn same_behind(alloc: Global, front: &str) -> bool {
 #[test]
 fn treats_heads_without_host_as_the_plain_program(rt: HostRuntime) {
     for front in FRONTS {
-        assert!(rt; same_behind(rt.alloc(), front), "{front}");
+        assert!(rt; same_behind(rt.alloc(), front, None), "{front}");
     }
+}
+
+// Without Host no path is sent of a target that names nobody.
+#[test]
+fn treats_targets_as_the_plain_program(rt: HostRuntime) {
+    assert!(rt; same_behind(rt.alloc(), "", Some(b"a")));
 }

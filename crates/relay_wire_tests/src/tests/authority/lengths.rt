@@ -4,7 +4,7 @@ use super::{Checked, refused, with_field};
 use http::Method;
 use http_header::{HOST, HeaderValue};
 use relay_authority::*;
-use relay_tasks::{Context, RequestHeader, Result};
+use relay_tasks::{Context, Fail, RequestHeader, Result};
 use std::alloc::Global;
 
 // A head whose target begins so and has that length.
@@ -24,23 +24,26 @@ fn path_length(alloc: Global, front: &str) -> Result<usize> {
 
 #[test]
 fn takes_a_target_of_65534_bytes(rt: HostRuntime) -> Checked {
-    assert!(rt; path_length(rt.alloc(), "/")? == 65_534);
-    assert!(rt; path_length(rt.alloc(), "http://h?")? == 65_527);
+    for (front, length) in [("/", 65_534), ("http://h?", 65_527), ("http://h/", 65_526)] {
+        assert!(rt; path_length(rt.alloc(), front)? == length, "{front}");
+    }
     let longer = long_head(rt.alloc(), "/", 65_535).err();
     assert!(rt; longer == refused(Context::HeadGrammar));
     Ok(())
 }
 
-// Whether a target one byte below the greatest length, with another Host, becomes so long.
-fn moves(alloc: Global, host: HeaderValue, length: usize) -> Result<bool> {
+// Why a target one byte below the greatest length is refused with another Host, if it is, and how
+// long it is then.
+fn moved(alloc: Global, host: HeaderValue) -> Result<(Option<Fail>, usize)> {
     let mut head = with_field(long_head(alloc, "http://h/", 65_533)?, HOST, host);
-    let moved = reconcile_upstream_authority(alloc, &mut head);
-    Ok(moved.is_ok() && head.raw_path().len() == length)
+    let refusal = reconcile_upstream_authority(alloc, &mut head).err();
+    Ok((refusal, head.raw_path().len()))
 }
 
 #[test]
 fn moves_a_target_up_to_65534_bytes(rt: HostRuntime) -> Checked {
-    assert!(rt; moves(rt.alloc(), HeaderValue::from_static("h2"), 65_534)?);
-    assert!(rt; !moves(rt.alloc(), HeaderValue::from_static("h22"), 65_535)?);
+    assert!(rt; moved(rt.alloc(), HeaderValue::from_static("h2"))? == (None, 65_534));
+    let refusal = refused(Context::HeadGrammar);
+    assert!(rt; moved(rt.alloc(), HeaderValue::from_static("h22"))? == (refusal, 65_533));
     Ok(())
 }

@@ -101,30 +101,35 @@ fn reads_a_chunked_body_at_every_cut(rt: HostRuntime) -> Checked {
     Ok(())
 }
 
-/// Whether five bytes are read, and what follows them is left.
-fn reads_five(alloc: Global) -> Made<bool> {
-    let mut reading = Reading::of(alloc, Framing::Length(5), b"hello, world", b"")?;
+/// Whether of five bytes these are read, their reading ends so, and so many bytes are left.
+fn reads_five(alloc: Global, text: &str, body: &str, last: Last, left: usize) -> Made<bool> {
+    let mut reading = Reading::of(alloc, Framing::Length(5), text.as_bytes(), b"")?;
     let ended = reading.run(alloc)?;
     Ok(
-        ended == Last::End
-            && reading.reader.is_done()
-            && reading.ahead.len() == 7
-            && reading.body.as_slice() == b"hello".as_slice(),
+        ended == last
+            && reading.reader.is_done() == (last == Last::End)
+            && reading.ahead.len() == left
+            && reading.body.as_slice() == body.as_bytes(),
     )
 }
 
 #[test]
 fn reads_a_length(rt: HostRuntime) -> Checked {
-    assert!(rt; reads_five(rt.alloc())?);
+    assert!(rt; reads_five(rt.alloc(), "hello, world", "hello", Last::End, 7)?);
+    assert!(rt; reads_five(rt.alloc(), "hell", "hell", Last::More, 0)?);
     Ok(())
 }
 
-const NO_SIZES: [&str; 6] = [
+const NO_SIZES: [&str; 10] = [
     "00000000000000005\r\nhello\r\n0\r\n\r\n",
     "\r\n",
     "+5\r\n",
+    "-5\r\n",
     "0x5\r\n",
+    "5 5\r\n",
     " 5\r\n",
+    "g\r\n",
+    ";a\r\n",
     "5;a\nb\r\n",
 ];
 
@@ -136,20 +141,40 @@ fn refuses_what_is_no_size(rt: HostRuntime) -> Checked {
     Ok(())
 }
 
+/// Texts of chunks, the body that each has, and how its reading ends.
+const SIZES: [(&str, &str, Last); 11] = [
+    ("0000000000000005\r\nhello\r\n0\r\n\r\n", "hello", Last::End),
+    ("FFFFFFFFFFFFFFFF\r\nhello", "hello", Last::More),
+    ("5\n", "", Last::More),
+    ("1\r\na\r\n+\r\n", "a", BROKEN),
+    ("1\r\na", "a", Last::More),
+    ("1\r\na\r", "a", Last::More),
+    ("1\r\nab", "a", Last::More),
+    ("1\r\nab\n", "a", BROKEN),
+    ("1\r\na\r\r", "a", BROKEN),
+    ("1\r\na\n\n", "a", BROKEN),
+    ("1\r\na0\r\n\r\n", "a", BROKEN),
+];
+
 /// Whether the text of chunks has that body, and its reading ends so.
-fn has_chunks(alloc: Global, text: &[u8], body: &[u8], last: Last) -> bool {
-    matches!(reads(alloc, Framing::Chunked, text, body, last), Ok(true))
+fn has_chunks(alloc: Global, text: &str, body: &str, last: Last) -> bool {
+    matches!(
+        reads(
+            alloc,
+            Framing::Chunked,
+            text.as_bytes(),
+            body.as_bytes(),
+            last
+        ),
+        Ok(true)
+    )
 }
 
 #[test]
 fn reads_sizes_and_asks_for_cr_lf(rt: HostRuntime) {
-    let text = b"0000000000000005\r\nhello\r\n0\r\n\r\n";
-    assert!(rt; has_chunks(rt.alloc(), text, b"hello", Last::End));
-    let text = b"FFFFFFFFFFFFFFFF\r\nhello";
-    assert!(rt; has_chunks(rt.alloc(), text, b"hello", Last::More));
-    assert!(rt; has_chunks(rt.alloc(), b"5\n", b"", Last::More));
-    assert!(rt; has_chunks(rt.alloc(), b"1\r\na\n\n", b"a", BROKEN));
-    assert!(rt; has_chunks(rt.alloc(), b"1\r\na0\r\n\r\n", b"a", BROKEN));
+    for (text, body, last) in SIZES {
+        assert!(rt; has_chunks(rt.alloc(), text, body, last), "at {text:?}");
+    }
 }
 
 /// Whether a chunk line of so many bytes, with its CR LF, is read so.
@@ -182,9 +207,24 @@ fn keeps_the_limit_of_the_trailer(rt: HostRuntime) -> Checked {
     Ok(())
 }
 
+/// Texts behind which a stream ends, and what that is refused as, if it is.
+const ENDS: [(Framing, &str, Option<ErrorType>); 9] = [
+    (Framing::Empty, "", None),
+    (Framing::Length(5), "", CLOSED),
+    (Framing::Length(5), "hell", CLOSED),
+    (Framing::Length(5), "hello", None),
+    (Framing::UntilClose, "hello", None),
+    (Framing::Tunnel, "hello", None),
+    (Framing::Chunked, "", CLOSED),
+    (Framing::Chunked, "5\r\nhello\r\n0\r\n", CLOSED),
+    (Framing::Chunked, "5\r\nhello\r\n0\r\n\r\n", None),
+];
+
+const CLOSED: Option<ErrorType> = Some(ErrorType::ConnectionClosed);
+
 /// What the end of the stream behind the text is refused as, if it is.
-fn end_of(alloc: Global, framing: Framing, text: &[u8]) -> Made<Option<ErrorType>> {
-    let mut reading = Reading::of(alloc, framing, text, b"")?;
+fn end_of(alloc: Global, framing: Framing, text: &str) -> Made<Option<ErrorType>> {
+    let mut reading = Reading::of(alloc, framing, text.as_bytes(), b"")?;
     reading.run(alloc)?;
     match reading.reader.end_of_stream() {
         Ok(()) => Ok(None),
@@ -194,10 +234,9 @@ fn end_of(alloc: Global, framing: Framing, text: &[u8]) -> Made<Option<ErrorType
 
 #[test]
 fn ends_with_the_stream_where_it_may(rt: HostRuntime) -> Checked {
-    let closed = Some(ErrorType::ConnectionClosed);
-    assert!(rt; end_of(rt.alloc(), Framing::UntilClose, b"hello")?.is_none());
-    assert!(rt; end_of(rt.alloc(), Framing::Length(5), b"hell")? == closed);
-    assert!(rt; end_of(rt.alloc(), Framing::Chunked, b"5\r\nhello\r\n0\r\n")? == closed);
+    for (framing, text, why) in ENDS {
+        assert!(rt; end_of(rt.alloc(), framing, text)? == why, "at {text:?}");
+    }
     Ok(())
 }
 

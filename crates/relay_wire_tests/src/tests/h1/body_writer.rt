@@ -12,33 +12,30 @@ fn write(writer: &mut BodyWriter, out: &mut Vec<u8>, piece: &[u8]) -> Option<u64
     }
 }
 
-/// Whether a body of these two pieces, of which so many bytes are taken, is written so.
-fn writes(
-    alloc: Global,
-    framing: Framing,
-    counts: (Option<u64>, Option<u64>),
-    want: &[u8],
-) -> bool {
+/// Whether a body of three pieces, the second of no bytes, of which so many bytes are taken, is
+/// written so.
+fn writes(alloc: Global, framing: Framing, counts: [Option<u64>; 3], want: &[u8]) -> bool {
     let mut out = Vec::new(alloc);
     let mut writer = BodyWriter::new(framing);
     let first = write(&mut writer, &mut out, b"hello");
-    let second = write(&mut writer, &mut out, b"hello, world");
+    let second = write(&mut writer, &mut out, b"");
+    let third = write(&mut writer, &mut out, b"hello, world");
     let end = writer.finish(&mut out).is_ok();
-    end && (first, second) == counts && writer.is_done() && out.as_slice() == want
+    end && [first, second, third] == counts && writer.is_done() && out.as_slice() == want
 }
 
 #[test]
 fn writes_chunks_up_to_a_length_and_raw(rt: HostRuntime) {
-    let (five, two, twelve) = (Some(5), Some(2), Some(12));
+    let (five, no, two, twelve) = (Some(5), Some(0), Some(2), Some(12));
     for (framing, counts, want) in [
         (
             Framing::Chunked,
-            (five, twelve),
+            [five, no, twelve],
             "5\r\nhello\r\nC\r\nhello, world\r\n0\r\n\r\n",
         ),
-        (Framing::Length(7), (five, two), "hellohe"),
-        (Framing::UntilClose, (five, twelve), "hellohello, world"),
-        (Framing::Empty, (None, None), ""),
+        (Framing::Length(7), [five, no, two], "hellohe"),
+        (Framing::UntilClose, [five, no, twelve], "hellohello, world"),
+        (Framing::Empty, [None, None, None], ""),
     ] {
         assert!(rt;
             writes(rt.alloc(), framing, counts, want.as_bytes()),

@@ -42,11 +42,28 @@ fn frames_for_clients_of_http_11(rt: HostRuntime) -> Checked {
 #[test]
 fn frames_for_clients_of_http_10(rt: HostRuntime) -> Checked {
     let close = Some(Framing::UntilClose);
+    let length = Some(Framing::Length(2));
+    let empty = Some(Framing::Empty);
     for (head, framing, written) in [
         (
             "HTTP/1.1 200 OK\r\nTransfer-Encoding: chunked\r\n\r\n",
             close,
             "HTTP/1.1 200 OK\r\n\r\n",
+        ),
+        (
+            "HTTP/1.1 200 OK\r\nContent-Length: 2\r\nTransfer-Encoding: chunked\r\n\r\n",
+            close,
+            "HTTP/1.1 200 OK\r\n\r\n",
+        ),
+        (
+            "HTTP/1.1 200 OK\r\nContent-Length: 2\r\n\r\n",
+            length,
+            "HTTP/1.1 200 OK\r\ncontent-length: 2\r\n\r\n",
+        ),
+        (
+            "HTTP/1.1 304 Not Modified\r\nTransfer-Encoding: chunked\r\n\r\n",
+            empty,
+            "HTTP/1.1 304 Not Modified\r\n\r\n",
         ),
         (
             "HTTP/1.1 200 OK\r\nTransfer-Encoding: gzip\r\n\r\n",

@@ -156,6 +156,10 @@ fn refuses_heads_for_their_reasons(rt: HostRuntime) -> Checked {
             b"GET / HTTP/1.0\r\nTransfer-Encoding: chunked\r\n\r\n".as_slice(),
             Context::BadFraming,
         ),
+        (
+            b"GET / HTTP/1.1\r\nHost: a\r\nContent-Length: x\r\n\r\n".as_slice(),
+            Context::BadFraming,
+        ),
         (b"GET /\r\n\r\n".as_slice(), Context::HeadGrammar),
     ] {
         let refused = Seen::Refused(why, ErrorSource::Downstream);

@@ -11,7 +11,7 @@ fn of_request(alloc: Global, text: &str) -> Result<Option<Framing>> {
     Ok(request_framing(&head).ok())
 }
 
-const REQUESTS: [(&str, Option<Framing>); 9] = [
+const REQUESTS: [(&str, Option<Framing>); 13] = [
     ("PUT / HTTP/1.1\r\n\r\n", Some(Framing::Empty)),
     (
         "PUT / HTTP/1.1\r\nContent-Length: 05\r\n\r\n",
@@ -28,6 +28,19 @@ const REQUESTS: [(&str, Option<Framing>); 9] = [
         "PUT / HTTP/1.1\r\nContent-Length: 18446744073709551616\r\n\r\n",
         None,
     ),
+    (
+        "PUT / HTTP/1.1\r\nContent-Length: 99999999999999999999\r\n\r\n",
+        None,
+    ),
+    (
+        "PUT / HTTP/1.1\r\nContent-Length: 5\r\nContent-Length: 5\r\n\r\n",
+        None,
+    ),
+    (
+        "PUT / HTTP/1.1\r\nTransfer-Encoding: gzip, chunked\r\n\r\n",
+        None,
+    ),
+    ("PUT / HTTP/1.0\r\nTransfer-Encoding: chunked\r\n\r\n", None),
     (
         "PUT / HTTP/1.1\r\nTransfer-Encoding: Chunked\r\n\r\n",
         Some(Framing::Chunked),
@@ -51,7 +64,7 @@ fn of_response(alloc: Global, asked: bool, text: &str) -> Result<Option<Framing>
     Ok(response_framing(&Method::GET, asked, &head).ok())
 }
 
-const RESPONSES: [(bool, &str, Option<Framing>); 5] = [
+const RESPONSES: [(bool, &str, Option<Framing>); 8] = [
     (false, "HTTP/1.1 200 OK\r\n\r\n", Some(Framing::UntilClose)),
     (
         false,
@@ -62,6 +75,21 @@ const RESPONSES: [(bool, &str, Option<Framing>); 5] = [
         false,
         "HTTP/1.1 200 OK\r\nContent-Length: 5, 5\r\n\r\n",
         None,
+    ),
+    (
+        false,
+        "HTTP/1.1 200 OK\r\nContent-Length: 5\r\nTransfer-Encoding: chunked\r\n\r\n",
+        Some(Framing::Chunked),
+    ),
+    (
+        false,
+        "HTTP/1.1 204 No Content\r\nContent-Length: x\r\n\r\n",
+        Some(Framing::Empty),
+    ),
+    (
+        false,
+        "HTTP/1.1 101 Switching Protocols\r\n\r\n",
+        Some(Framing::Empty),
     ),
     (
         false,

@@ -6,7 +6,8 @@ use std::test::Fail as Failed;
 
 type Checked = std::result::Result<(), Failed>;
 
-const ENDS: [(&str, Option<usize>); 5] = [
+const ENDS: [(&str, Option<usize>); 6] = [
+    ("", None),
     ("GET / HTTP/1.1\r\n\r\nbody\r\n\r\n", Some(18)),
     ("GET / HTTP/1.1\r\n\n\r\n", None),
     ("\r\n\r\n\r\n", Some(4)),
@@ -64,9 +65,11 @@ const READ: [&str; 2] = [
     "\r\nGET / HTTP/1.1\r\n\r\n",
 ];
 
-const REFUSED: [&str; 10] = [
+const REFUSED: [&str; 12] = [
+    "\r\n\r\n",
     "\r\n\r\nGET / HTTP/1.1\r\n\r\n",
     "GET / HTTP/1.1\nHost: a\n\n",
+    "GET / HTTP/1.1\nHost: a\n\r\n",
     "GET / HTTP/1.1\r\n\r\nmore",
     "GET / HTTP/1.1\r\nHost : a\r\n\r\n",
     "GET / HTTP/1.1\r\nHost: a\r\n b\r\n\r\n",

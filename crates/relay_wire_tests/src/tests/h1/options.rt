@@ -10,7 +10,8 @@ fn is_closing(alloc: Global, text: &str) -> Result<bool> {
     Ok(closes(head.headers()))
 }
 
-const RESPONSES: [(&str, bool); 5] = [
+const RESPONSES: [(&str, bool); 8] = [
+    ("HTTP/1.1 200 OK\r\n\r\n", false),
     ("HTTP/1.1 200 OK\r\nConnection: CLOSE\r\n\r\n", true),
     (
         "HTTP/1.1 200 OK\r\nConnection: keep-alive,\tclose , x\r\n\r\n",
@@ -20,7 +21,9 @@ const RESPONSES: [(&str, bool); 5] = [
         "HTTP/1.1 200 OK\r\nConnection: x\r\nConnection: close\r\n\r\n",
         true,
     ),
+    ("HTTP/1.1 200 OK\r\nConnection: closed\r\n\r\n", false),
     ("HTTP/1.1 200 OK\r\nConnection: x close\r\n\r\n", false),
+    ("HTTP/1.1 200 OK\r\nConnection: ,,\r\n\r\n", false),
     ("HTTP/1.1 200 OK\r\nClose: close\r\n\r\n", false),
 ];
 
