@@ -59,7 +59,7 @@ fn inner(alloc: Global, framing: Framing) -> Result<ClientSide> {
 
 /// The side behind that application of a request with a body in that framing, which has ended or
 /// not.
-fn held<'a>(
+fn begun<'a>(
     app: &'a App<Changes>,
     alloc: Global,
     framing: Framing,
@@ -114,7 +114,7 @@ fn read(held: &mut Held<'_>, client: &mut Client) -> Given {
 /// What two reads give behind that application, and how many calls were entered.
 fn reads(app: &App<Changes>, alloc: Global) -> Result<(Given, Given, usize)> {
     let mut client = client(alloc)?;
-    let mut held = held(app, alloc, Framing::Length(4), true, false)?;
+    let mut held = begun(app, alloc, Framing::Length(4), true, false)?;
     let first = read(&mut held, &mut client);
     let second = read(&mut held, &mut client);
     Ok((first, second, entered(&held)))
@@ -249,7 +249,7 @@ fn answers(
     let app = app(Does::Writes);
     let tasks = batch(alloc, response)?;
     let mut client = client(alloc)?;
-    let mut held = held(&app, alloc, Framing::Empty, made, true)?;
+    let mut held = begun(&app, alloc, Framing::Empty, made, true)?;
     Ok(answer(&mut held, &mut client, tasks, text))
 }
 
@@ -313,10 +313,16 @@ fn three_pieces(alloc: Global) -> Result<TaskList> {
 /// The delay that is taken behind a batch of three pieces, and that behind it.
 fn delays(app: &App<Changes>, alloc: Global) -> Result<(u64, u64)> {
     let tasks = three_pieces(alloc)?;
-    let mut held = held(app, alloc, Framing::Empty, true, true)?;
+    let mut held = begun(app, alloc, Framing::Empty, true, true)?;
     let _refused = take(&mut held, tasks);
-    let first = held.rest.take_delay(held.session.phase_log());
-    let second = held.rest.take_delay(held.session.phase_log());
+    let Held {
+        app: _,
+        session,
+        ctx: _ctx,
+        mut rest,
+    } = held;
+    let first = rest.take_delay(session.phase_log());
+    let second = rest.take_delay(session.phase_log());
     Ok((first, second))
 }
 
