@@ -41,4 +41,4 @@ returns-in-Ok-clause-puts c = λ s p holds piece is.
     let same : c.piece-in-Ok.result ≡ piece = cc in
     inl (subst (λ (x : Piece). is_some (task_put_of false x) ≡ true)
     (sym c.piece-in-Ok.ensures ∙ same)
-    (puts_some c.next_bytes.result.0.now c.next_bytes.result.1 c.next_bytes.ensures))
+    (puts_some c.next_bytes-end.result.0.now c.next_bytes-end.result.1 c.next_bytes-end.ensures))
