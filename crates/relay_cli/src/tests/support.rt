@@ -61,10 +61,21 @@ fn begins(text: &str, lines: &[&str]) -> bool {
 
 /// Whether the script that these parts make is run, and its report begins with these lines.
 pub(super) fn reports(alloc: Global, parts: &[&str], lines: &[&str]) -> Result<bool, AllocError> {
-    let mut script = String::new(alloc);
+    let script = joined(alloc, parts)?;
+    report_begins(alloc, script.as_str(), lines)
+}
+
+/// These parts as one text.
+fn joined(alloc: Global, parts: &[&str]) -> Result<String, AllocError> {
+    let mut text = String::new(alloc);
     for part in parts {
-        script.push_str(part)?;
+        text.push_str(part)?;
     }
+    Ok(text)
+}
+
+/// Whether the script is run, and its report begins with these lines.
+fn report_begins(alloc: Global, script: &str, lines: &[&str]) -> Result<bool, AllocError> {
     let report = answer(alloc, &["run"], script.as_bytes())?;
     Ok(begins(report.as_str(), lines))
 }
@@ -113,20 +124,21 @@ impl Sweep {
         lines: &[&str],
     ) -> Result<bool, AllocError> {
         let [first, second] = self.client;
-        let parts = [
+        let front = [
             "{\"schedule\":[",
             self.schedule,
             "],\"client\":[",
             first,
             second,
             self.front,
-            before,
-            self.fault,
-            behind,
-            self.back,
-            self.last,
         ];
-        reports(alloc, &parts, lines)
+        let mut script = joined(alloc, &front)?;
+        script.push_str(before)?;
+        script.push_str(self.fault)?;
+        script.push_str(behind)?;
+        script.push_str(self.back)?;
+        script.push_str(self.last)?;
+        report_begins(alloc, script.as_str(), lines)
     }
 
     /// Whether the report begins so where a link that gives these bytes one by one fails before
