@@ -3,7 +3,7 @@
 --
 --   end_of                what a piece puts has an end exactly where the piece is one
 --   puts_none, has_head   a session of whose body something is put again has a head
---   by_head               whether a request is a HEAD, by the head that its session has
+--   by_request            whether a request is a HEAD, by what its response answers
 --   calls_none, calls_by, cannot_by   what was called: nothing; or the filter of requests, and what
 --                         was kept passed, or did not
 --   grown                 the log has grown by that call
@@ -20,12 +20,15 @@ use Rattle.relay_tasks.specs.declared.task.HttpTask.TheVariants as task
 use Rattle.relay_tasks.specs.Head.{RequestHead}
 use Rattle.relay_tasks.specs.Task.{is_end}
 use Rattle.relay_h1.specs.Framing.{request_framing}
+use Rattle.relay_session.specs.Asked.{is_head, request_of}
 use Rattle.relay_session.specs.Reading.{head_of, is_body_done, replay_of}
 use Rattle.relay_session.specs.Replay.{retry_buffer}
 use Rattle.relay_session.specs.TaskWire.{bad_framing}
 use Rattle.relay_session.specs.declared.reading.Reading.{Reading}
 use Rattle.relay_session.specs.declared.reading.Reading.TheVariants as reading
 use Rattle.relay_session.specs.declared.session.HttpSession.{HttpSession}
+use Rattle.relay_session.specs.declared.task_text.Asks.TheVariants as asks
+use Rattle.relay_session.specs.declared.task_text.Request.{Request}
 use Rattle.relay_modules.specs.declared.session.Session.{Session}
 use Rattle.relay_core.specs.Piece.{is_empty, put_of, task_put_of}
 use Rattle.relay_core.specs.declared.piece.Piece.{Piece}
@@ -73,13 +76,16 @@ puts_one piece = of (task_put_of false piece)
 -- ---- the head
 
 -- a session whose head asks so, as the client's bytes do, asks as these
-pub by_head : (head : Option RequestHead) (asks : Bool) (method : List ℕ) → IsSome head
-    → ((own : RequestHead) → head ≡ Some own → asks ≡ is_head_request own.method)
-    → ((own : RequestHead) → head ≡ Some own
-    → is_head_request own.method ≡ is_head_request method)
-    → asks ≡ is_head_request method
-by_head None asks method some says heads = absurd (cc)
-by_head (Some own) asks method some says heads = says own refl ∙ heads own refl
+pub by_request : (request : Request) (answers : Bool) (own head : RequestHead)
+    → answers ≡ is_head request.method → request ≡ request_of own → own ≡ head
+    → answers ≡ is_head_request head.method
+by_request request answers own head says of_own same =
+    says ∙ ap (λ (r : Request). is_head r.method)
+    (of_own ∙ ap (λ (h : RequestHead). request_of h) same) ∙ by (is_head_request head.method)
+  where
+    by : (b : Bool) → is_head (if b then asks.Head else asks.Other) ≡ b
+    by true = refl
+    by false = refl
 
 -- ---- what was kept
 

@@ -38,6 +38,7 @@ use Rattle.relay_hooked.specs.Attempt.{HookedHalf, PeerHalf}
 use Rattle.relay_hooked.specs.Calls.{calls_behind}
 use Rattle.relay_hooked.specs.Order.{AreSaid}
 use Rattle.relay_hooked.specs.Sides.{Behind, HookedHolds, PeerHolds, PeerSideBlames, filtering}
+use Rattle.relay_hooked.proofs.KindLemmas.{calls_filters}
 
 -- ---- the body that came
 
@@ -84,6 +85,8 @@ module _
         let c = h.passed.holds.passed.client in
         let d = holds.passed.client in
         record {
+          are_filters =
+              calls_filters b.of_head b.stopped (calls_behind s.called b.log) h.calls;
           came = c.came;
           written = c.written;
           faults = c.faults;

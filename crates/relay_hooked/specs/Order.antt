@@ -1,7 +1,7 @@
 -- What was sent to the peer and what was written to the client of an attempt behind filters, in
 -- terms of the bytes that passed and of the calls of the attempt (RFC 9110, section 15.2; RFC 9112,
 -- sections 3 to 8).
-use Rattle.std.specs.Prelude.{◌≡◌, ◌↔◌, IsTrue, ℕ, Bool, true, false, ◌⊎◌, ◌&&◌, List, [], ◌∷◌, ◌++◌, drop, Option, Some, None, is_none}
+use Rattle.std.specs.Prelude.{◌≡◌, ◌↔◌, All, IsTrue, ℕ, Bool, true, false, ◌⊎◌, ◌&&◌, List, [], ◌∷◌, ◌++◌, drop, Option, Some, None, is_none}
 use Rattle.std.specs.List.{list_any, concat}
 use Rattle.relay_tasks.specs.declared.error.Error.{Error}
 use Rattle.relay_tasks.specs.declared.error.Fail.TheVariants as fail
@@ -44,7 +44,7 @@ use Rattle.relay_filters.specs.Request.{PassesRequest, PieceCall, has_piece, tak
 use Rattle.relay_filters.specs.Response.{BatchStops, MakesOf, WasMade}
 use Rattle.relay_attempt.specs.Order.{ArePieces, Asks}
 use Rattle.relay_attempt.specs.Passed.{Passed, asked}
-use Rattle.relay_hooked.specs.Calls.{Filtering}
+use Rattle.relay_hooked.specs.Calls.{Filtering, IsFilter}
 
 -- ---- the response
 
@@ -77,10 +77,11 @@ pub record AreSaid
 -- the front of the text of what the filters of responses made, by these calls, of the first of the
 -- tasks that the peer's bytes are. The first of these that the client's writer refuses is refused
 -- so; an end is asked for behind them only where one is among them, or where the response is over
--- behind them
+-- behind them. Each of the calls is a filter's
 pub record IsInOrderWith
     (refused : Option Error) (f : Filtering) (s : Origin) (p : Passed) (closed : Bool)
     : Type 0 where
+  pub are_filters : All IsFilter f.calls
   pub asks : Asks s p
   pub came : List HttpTask
   pub are_came : ArePieces asks.framing (drop asks.len (asked s p)) came

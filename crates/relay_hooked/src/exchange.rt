@@ -3,7 +3,6 @@
 //! shown (RFC 9112, sections 6, 7 and 9.3).
 ghost use Rattle.std.specs.declared.alloc.Global.{Global};
 ghost use Rattle.std.specs.Prelude.{◌≡◌, ◌↔◌, ◌^◌, ◌-◌, ◌+◌, ◌≤◌, Bool, ℕ, List, [], None, Some, false, drop, is_some, length, min, IfOk, IfErr, IsOkUnless, true, ◌⊎◌};
-ghost use Rattle.relay_tasks.specs.Head.{RequestHead};
 ghost use Rattle.relay_links.specs.Link.{IsHandedOut};
 ghost use Rattle.relay_h1.specs.Framing.{request_framing};
 ghost use Rattle.relay_h1.specs.Verdict.{refused_from};
@@ -11,9 +10,7 @@ ghost use Rattle.relay_core.specs.Asked.{WaitRose};
 ghost use Rattle.relay_core.specs.Causes.{says_failed};
 ghost use Rattle.relay_core.specs.Past.{DownPast, Origin, UpPast};
 ghost use Rattle.relay_core.specs.Piece.{put_of, task_put_of};
-ghost use Rattle.relay_session.specs.Reading.{head_of};
 ghost use Rattle.relay_sides.specs.Client.{BeginsBehind, begun_past, put_again};
-ghost use Rattle.relay_sides.specs.Filtered.{is_head_request};
 ghost use Rattle.relay_sides.specs.Lent.{SameButHead};
 ghost use Rattle.relay_calls.specs.Log.{IsAllowed, requests_in};
 ghost use Rattle.relay_exchange.specs.declared.exchange.Stage.TheVariants as stage;
@@ -36,7 +33,7 @@ use relay_hooks::{ProxyHttp, Session};
 use relay_links::{ByteLink, Schedule};
 use relay_peer::PeerSide;
 use relay_session::{Front, HttpSession};
-use relay_sides::{ClientSide, is_head_request};
+use relay_sides::ClientSide;
 use relay_tasks::{Context, ErrorSource, Fail, Pause, PhaseLog, RequestHeader, Result};
 use std::alloc::Global;
 
@@ -81,8 +78,6 @@ pub fn begin<SV: ProxyHttp, L: ByteLink, F: Front>(
     ensures begins { IfOk result (λ x. (front : F) (s : Origin) (came : List ℕ) (reused : Bool)
         → head ≡ s.sent → s.asked ≡ false → s.called ≡ session.old.seen.log
         → BeginsBehind s came (F.state front) (F.ahead front) client
-        → ((own : RequestHead) → head_of client.reading ≡ Some own
-        → is_head_request own.method ≡ is_head_request s.head.method)
         → IsHandedOut (L.state link) (L.start link) reused → s.reused ≡ reused
         → IsUnderWay L.state L.start s
         (record { came = came; written = []; got = []; sent = [] }) (F.state front)
@@ -363,14 +358,6 @@ fn settled(left: &Rested, turn: Turn) -> Turn
     turn
 }
 
-/// Whether the request of that session is a HEAD, by the head that it has.
-fn asks_head(session: &HttpSession) -> bool
-    ensures { (head : RequestHead) → head_of session.now.reading ≡ Some head
-        → result ≡ is_head_request head.method }
-{
-    session.has_head() && is_head_request(session.req_header())
-}
-
 /// What the session has kept of a body as one piece, with the end, where the body has ended.
 ///
 /// Fails out of memory alone.
@@ -421,8 +408,6 @@ fn put_first<SV: ProxyHttp, F: Front>(
     ensures begins { IfOk result (λ r. (front : F) (s : Origin) (came : List ℕ)
         → s.called ≡ session.old.seen.log
         → BeginsBehind s came (F.state front) (F.ahead front) client
-        → ((own : RequestHead) → head_of client.reading ≡ Some own
-        → is_head_request own.method ≡ is_head_request s.head.method)
         → SideHolds (F.state front) (F.ahead front) session.new.seen.log s r.down
         (begun_past came (put_of false r.piece))) }
     ensures begun { IfOk result (λ r. IsBegun client r.down r.piece) }
@@ -435,7 +420,7 @@ fn put_first<SV: ProxyHttp, F: Front>(
         Ok(kept) => kept,
         Err(why) => return Err(Unput { client, why }),
     };
-    let of_head = asks_head(&client);
+    let of_head = client.answers_head();
     let inner = ClientSide::new(alloc, client);
     if !puts(&kept) {
         let down = Rested::begin::<F>(inner, session.phase_log(), false, of_head);

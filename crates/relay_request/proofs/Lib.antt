@@ -1,3 +1,4 @@
+pub mod FilterLemmas
 pub mod ClosingSteps
 pub mod CallLemmas
 pub mod NamedLemmas

@@ -262,6 +262,8 @@ module _ (these those : List LogEntry) (e : LogEntry) (more : those ≡ these ++
         RefusesToSend.unfiltered (fails_on hook.UpstreamRequestFilter _ fails) kept
     refuses_on (RefusesToSend.unsettled filtered filters settles kept) =
         RefusesToSend.unsettled filtered (filters_on filters) settles kept
+    refuses_on (RefusesToSend.unpassed fails kept) =
+        RefusesToSend.unpassed (fails_on hook.RequestBodyFilter _ fails) kept
 
     -- the last call treated that error
     pub treats_last : (raised treated : Error) → e.input ≡ item.Failure raised

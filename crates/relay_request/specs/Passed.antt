@@ -114,6 +114,16 @@ origin_of s head sent reused = record {
   called = [];
 }
 
+-- the same of an exchange that began behind those calls
+abbrev pub origin_at : Start → RequestHead → RequestHead → Bool → List LogEntry → Origin
+origin_at s head sent reused began = record (origin_of s head sent reused) { called = began }
+
+-- the calls of an exchange stand in the log of its request: behind those that stood there as it
+-- began, and before those that came since
+pub record StandsIn (called began calls : List LogEntry) : Type 0 where
+  pub after : List LogEntry
+  pub called_are : called ≡ began ++ (calls ++ after)
+
 -- nothing passed yet
 abbrev pub nothing : Passed
 nothing = record { came = []; written = []; got = []; sent = [] }

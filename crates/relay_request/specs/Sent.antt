@@ -139,7 +139,8 @@ pub record FailsAt (which : Hook) (called : List LogEntry) (e : Error) : Type 0 
   pub error : last.error ≡ Some e
 
 -- why an attempt that has a link sends no head, and whether that link is kept: the application
--- failed as it was told of the link; the filter failed; or what it left is refused
+-- failed as it was told of the link; the filter failed; what it left is refused; or what was kept of
+-- the body did not pass its filter
 pub data RefusesToSend (called : List LogEntry) (head : RequestHead) (keep : Bool) (e : Error)
     : Type 0 where
   untold : FailsAt hook.ConnectedToUpstream called e → keep ≡ false
@@ -149,3 +150,4 @@ pub data RefusesToSend (called : List LogEntry) (head : RequestHead) (keep : Boo
   unsettled : (filtered : RequestHead) → (filters : Filters called head filtered)
       → SettlesFramed (client_of head) (asked_in filters) filtered (Err e) → keep ≡ true
       → RefusesToSend called head keep e
+  unpassed : FailsAt hook.RequestBodyFilter called e → keep ≡ true → RefusesToSend called head keep e

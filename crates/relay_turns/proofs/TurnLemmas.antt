@@ -9,14 +9,14 @@ use Rattle.relay_links.specs.Link.{LinkState, LinkStart, LinkItems}
 use Rattle.relay_links.specs.declared.Returned.{Returned}
 use Rattle.relay_request.specs.Closing.{Rests, Settles, TurnOf}
 use Rattle.relay_core.specs.Past.{Origin}
-use Rattle.relay_attempt.specs.Exchange.{IsUnderWay}
-use Rattle.relay_attempt.specs.Head.{link_of}
 use Rattle.relay_attempt.specs.Passed.{Passed}
+use Rattle.relay_hooked.specs.Exchange.{IsUnderWay}
+use Rattle.relay_hooked.specs.Head.{link_of}
 use Rattle.relay_session.specs.declared.session.HttpSession.{HttpSession}
 use Rattle.relay_request.specs.Bound.{CountsCall, PhaseCounts, TurnedCounts}
 use Rattle.relay_request.specs.Calls.{IsUnended}
 use Rattle.relay_request.specs.Legs.{RepeatsOn}
-use Rattle.relay_request.specs.Passed.{World, Start, called_to, opened_to, origin_of}
+use Rattle.relay_request.specs.Passed.{World, Start, called_to, opened_to, origin_at}
 use Rattle.relay_request.specs.Phases.{RunSoFar}
 use Rattle.relay_request.specs.Uses.{ClientUses, LinkUses, OwnUses, PhaseUses, TurnCounts}
 use Rattle.relay_request.specs.Refusals.{attempts_in, faults_before, faults_for, faults_of_turn}
@@ -214,7 +214,7 @@ module _ {L C : Type 0} (state : L → LinkState) (start_at : L → LinkStart) w
       (phase : Phase L C) (T : Type 0) → is_relaying phase ≡ true
       → RunSoFar state start_at s p w own phase
       → ((o : Origin) (q : Passed) (a : Box (Attempt L C)) → phase ≡ Relay a
-      → IsUnderWay state start_at o q w.client w.ahead a.value.exchange → T) → T
+      → IsUnderWay state start_at o q w.client w.ahead s.called a.value.exchange → T) → T
   relaying_uses s p own w ReadHead T is run uses = absurd (true≢false (sym is))
   relaying_uses s p own w (Broken context session link lease keep error) T is run uses =
       absurd (true≢false (sym is))
@@ -232,7 +232,8 @@ module _ {L C : Type 0} (state : L → LinkState) (start_at : L → LinkStart) w
       absurd (true≢false (sym is))
   relaying_uses s p own w (Relay a) T is run uses =
       let relays = relaying_of state start_at s p w own a run in
-      uses (origin_of s relays.head relays.sent a.value.lease.reused) p a refl relays.under_way
+      uses (origin_at s relays.head relays.sent a.value.lease.reused relays.began) p a refl
+      relays.under_way
   relaying_uses s p own w (Close link lease keep outcome) T is run uses =
       absurd (true≢false (sym is))
   relaying_uses s p own w (Ended outcome attempts) T is run uses = absurd (true≢false (sym is))
@@ -242,7 +243,7 @@ module _ {L C : Type 0} (state : L → LinkState) (start_at : L → LinkStart) w
       (client' : LinkState) (n used : ℕ) (phase next : Phase L C) → is_relaying phase ≡ true
       → RunSoFar state start_at s p w own phase → PhaseUses state start_at n own phase
       → ((o : Origin) (q : Passed) (a : Box (Attempt L C)) (m : ℕ) → phase ≡ Relay a
-      → IsUnderWay state start_at o q w.client w.ahead a.value.exchange
+      → IsUnderWay state start_at o q w.client w.ahead s.called a.value.exchange
       → LinkUses state start_at m (link_of a.value.exchange)
       → TurnCounts state start_at m w.client client' used [] next)
       → TurnCounts state start_at n w.client client' used own next
@@ -268,8 +269,8 @@ module _ {L C : Type 0} (state : L → LinkState) (start_at : L → LinkStart) w
       counts =
       absurd (true≢false (sym is))
   relaying_counts s p [] w client' n used (Relay a) next is run had counts =
-      counts (origin_of s run.holds.head run.holds.sent a.value.lease.reused) p a n refl
-      run.holds.under_way had
+      counts (origin_at s run.holds.head run.holds.sent a.value.lease.reused run.holds.began) p a n
+      refl run.holds.under_way had
   relaying_counts s p (r ∷ own) w client' n used (Relay a) next is run had counts =
       absurd run.holds
   relaying_counts s p own w client' n used (Close link lease keep outcome) next is run had counts =

@@ -34,18 +34,22 @@ const HOOKS: [(&str, Option<ScriptError>); 13] = [
     ),
     (
         r#"[{"hook":"response_filter","do":"status","code":418}]"#,
-        Some(ScriptError::HookNotCalled),
+        None,
     ),
     (
         r#"[{"hook":"response_body_filter","do":"text","value":"h"}]"#,
-        Some(ScriptError::HookNotCalled),
+        None,
     ),
     (
         r#"[{"hook":"request_body_filter","do":"drop"}]"#,
-        Some(ScriptError::HookNotCalled),
+        None,
     ),
     (
         r#"[{"hook":"custom_forwarding","do":"inject","up":["a",""],"down":[]}]"#,
+        Some(ScriptError::HookNotCalled),
+    ),
+    (
+        r#"[{"hook":"module_request_body","do":"drop"}]"#,
         Some(ScriptError::HookNotCalled),
     ),
     (

@@ -35,7 +35,7 @@ returns-in-Ok-clause-begins g c =
     ap (λ (o : Option Fail).
     shown_done o side.was.body_done (is_body_done side.inner.session.reading)) begins.goes_on
     ∙ begins.body ∙ sym value in
-    λ front s came reused own none called behind heads out used.
+    λ front s came reused own none called behind out used.
     let link = g.F.Front.state front in
     let ahead = g.F.Front.ahead front in
     let past = begun_past came (put_of false c.in-Ok.field-0.piece) in
@@ -57,7 +57,7 @@ returns-in-Ok-clause-begins g c =
     (put_first (Some c.in-Ok.field-0.piece)) (side_state log side) (peer.state_of up) past
     none_passed
     (record {
-      down_holds = c.in-Ok.ensures.begins front s came called behind heads;
+      down_holds = c.in-Ok.ensures.begins front s came called behind;
       up_holds = c.in_default.ensures.begins s own none c.new-peer.ensures.fresh reused
           (subst (λ l. IsHandedOut (state l) (start_at l) reused) (sym c.new-peer.ensures.link) out)
           used;

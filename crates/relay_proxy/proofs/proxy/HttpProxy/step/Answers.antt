@@ -13,7 +13,7 @@ use Rattle.relay_proxy.proofs.proxy.HttpProxy.step.Goals as goal
 
 -- the calls so far go on with that of such a hook
 pub returns-in-Some-clause-calls : goal.returns-in-Some-clause-calls
-returns-in-Some-clause-calls g c = λ so_far.
+returns-in-Some-clause-calls g c = λ s p own most first so_far run.
     subst (λ (k : Phase g.row.K-Byte.Denot g.row.SV-CTX.Denot). CallsSoFar
     (allowed_by (g.SV.ProxyHttp.allows c.args.self.now.inner) g.SV.Modules.HttpModule.allows)
     (g.SV.ProxyHttp.mark_of c.args.self.now.inner) c.call_last.new.machine.calls k)
@@ -79,7 +79,7 @@ returns-then-is_over-clause-steps g c = λ s p own most first so_far run.
 
 -- and no link is used
 pub returns-then-is_over-clause-uses : goal.returns-then-is_over-clause-uses
-returns-then-is_over-clause-uses g c = λ s p own run. (
+returns-then-is_over-clause-uses g c = λ s p own calls run. (
   0,
   ap (λ (k : Work). k.used) c.rest.ensures.adds,
   rw c.rest.ensures.same (rests_uses g.K.Byte.ByteLink.state 0
