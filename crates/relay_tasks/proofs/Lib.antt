@@ -1,3 +1,4 @@
 pub mod Clones
+pub mod LogLemmas
 pub mod Refusals
 pub mod Visible

@@ -7,7 +7,7 @@ use crate::tests::support::{defaults, expect, hook_at, release, unmade};
 use relay_closing::{Cause, End, Place, begin_closing, take_turn};
 use relay_hooks::{HttpModule, ProxyHttp, Session};
 use relay_script::Action;
-use relay_tasks::{Error, ErrorType, Fail, Hook, Item, PhaseLog, Result};
+use relay_tasks::{Error, ErrorType, Fail, Hook, PhaseLog, Result};
 use std::alloc::Global;
 
 /// How a request ended; `Reported` says whether the line on it is that of `GET /a`.
@@ -18,9 +18,9 @@ enum Told {
     Reported(bool),
 }
 
-/// What came of the end of a request: how it ended, whether its end and `logging` tell the error
-/// that it was given, the status with which the client was answered, whether a final head was
-/// queued, the hooks that the log tells, and whether a value is kept.
+/// What came of the end of a request: how it ended, whether it tells the error that it was given
+/// and `logging` was called once, the status with which the client was answered, whether a final
+/// head was queued, the hooks that the log tells, and whether a value is kept.
 #[derive(Clone, Copy, Debug, PartialEq, Eq)]
 struct Came {
     told: Told,
@@ -99,7 +99,7 @@ fn told_of<M: HttpModule>(
     let log = session.phase_log();
     Came {
         told,
-        is_told: cause.error() == error && logged(log) == error,
+        is_told: cause.error() == error && is_logged_once(log),
         code,
         answered: session.as_downstream().response_written(),
         hooks: hooks_of(log),
@@ -118,24 +118,15 @@ fn hooks_of(log: &PhaseLog) -> [Option<Hook>; 5] {
     ]
 }
 
-/// The error that `logging` was given, or none.
-fn logged(log: &PhaseLog) -> Option<Error> {
-    for at in 0..log.len() {
-        if let Some(entry) = log.get(at) {
-            if entry.hook == Hook::Logging {
-                return failure_of(&entry.input);
-            }
+/// Whether `logging` was called once.
+fn is_logged_once(log: &PhaseLog) -> bool {
+    let mut calls = 0_usize;
+    for line in log.lines() {
+        if line.hook == Hook::Logging {
+            calls = calls.saturating_add(1);
         }
     }
-    None
-}
-
-/// The error that an item is, or none.
-fn failure_of(item: &Item) -> Option<Error> {
-    match item {
-        Item::Failure(error) => Some(*error),
-        _ => None,
-    }
+    calls == 1
 }
 
 /// The hooks for an error, the last of which is called where the client goes back.

@@ -10,7 +10,7 @@ use relay_h1::{Connection, Framing};
 use relay_hooks::{ProxyHttp, Session};
 use relay_links::{ReadItem, ScriptLink};
 use relay_session::HttpSession;
-use relay_tasks::{Error, ErrorType, Fail, PhaseLog, RequestHeader, Result, Took};
+use relay_tasks::{Error, ErrorType, Fail, RequestHeader, Result, Took};
 use relay_trying::treat_failure;
 use std::alloc::{AllocError, Global};
 
@@ -58,13 +58,13 @@ fn read(alloc: Global, session: &mut HttpSession, client: &mut Client, pieces: u
     Ok(())
 }
 
-/// Whether another attempt may follow the error of an attempt behind the hook, and whether the log
-/// shows that the body is kept no longer.
+/// Whether another attempt may follow the error of an attempt behind the hook, and whether the
+/// body is kept no longer.
 fn treated<A: ProxyHttp + Drop>(
     app: Result<A>,
     alloc: Global,
     pieces: usize,
-) -> Result<(bool, Option<bool>)> {
+) -> Result<(bool, bool)> {
     let app = app?;
     let client = put_behind(alloc, pieces)?;
     let mut session = Session::new_h1_unmade(alloc, client);
@@ -72,24 +72,16 @@ fn treated<A: ProxyHttp + Drop>(
     let mut error = Error::new_up(ErrorType::ReadError);
     error.set_retry(true);
     let treated = treat_failure(&app, &mut session, &mut ctx, &peer(), error, false);
-    let truncated = is_truncated(session.phase_log());
+    let truncated = session.as_downstream().retry_buffer_truncated();
     release(session);
     release(ctx);
     Ok((treated?.retry(), truncated))
 }
 
-/// Whether the first entry of the log shows that the body is kept no longer.
-fn is_truncated(log: &PhaseLog) -> Option<bool> {
-    match log.get(0) {
-        Some(entry) => Some(entry.view.truncated),
-        None => None,
-    }
-}
-
 #[test]
 fn tries_again_while_the_body_is_kept(rt: HostRuntime) {
     let alloc = rt.alloc();
-    expect(&rt, treated(defaults(), alloc, 0), Ok((true, Some(false))));
-    expect(&rt, treated(defaults(), alloc, 4), Ok((true, Some(false))));
-    expect(&rt, treated(defaults(), alloc, 5), Ok((false, Some(true))));
+    expect(&rt, treated(defaults(), alloc, 0), Ok((true, false)));
+    expect(&rt, treated(defaults(), alloc, 4), Ok((true, false)));
+    expect(&rt, treated(defaults(), alloc, 5), Ok((false, true)));
 }

@@ -53,10 +53,10 @@ pub(crate) fn unmade<M: HttpModule>(alloc: Global) -> Result<Session<M>>
     Ok(Session::new_h1_unmade(alloc, client))
 }
 
-/// The hook of the entry at that place.
+/// The hook that the log tells at that place.
 pub(crate) fn hook_at(log: &PhaseLog, at: usize) -> Option<Hook> {
-    match log.get(at) {
-        Some(entry) => Some(entry.hook),
+    match log.lines().get(at) {
+        Some(line) => Some(line.hook),
         None => None,
     }
 }

@@ -149,18 +149,18 @@ fn moves_tasks_and_messages(rt: HostRuntime) {
     assert!(rt; matches!(copies_messages(rt.alloc()), Ok(true)));
 }
 
-fn entry(alloc: Global, input: Item) -> LogEntry {
+fn entry(alloc: Global, input: Item, output: Item, delay: Option<u64>) -> LogEntry {
     LogEntry {
         hook: Hook::UpstreamPeer,
         mark_before: 0,
         mark_after: 1,
         input,
-        output: Item::Nothing,
+        output,
         wrote: TaskList::new(alloc),
         error: None,
         head: None,
         keepalive: true,
-        delay: None,
+        delay,
         view: View {
             final_head: false,
             truncated: false,
@@ -181,13 +181,40 @@ fn copied_peer() -> Result<Peer> {
 fn logs(alloc: Global) -> Result<bool> {
     let input = Item::Addressed(copied_peer()?, true);
     let mut log = PhaseLog::new(alloc);
-    let pushed = log.push(entry(alloc, input));
-    Ok(pushed.is_ok() && log.len() == 1 && log.get(0).is_some())
+    let was_empty = log.is_empty();
+    log.push(entry(alloc, input, Item::Answer(true), None))?;
+    log.push(entry(alloc, Item::Nothing, Item::Nothing, Some(7)))?;
+    Ok(was_empty && log.len() == 2 && log.delays() == [7].as_slice() && are_kept(log.lines()))
+}
+
+fn are_kept(lines: &[LogLine]) -> bool {
+    let hook = Hook::UpstreamPeer;
+    let said = HookAnswer::Said(true);
+    let done = HookAnswer::Done;
+    let want = [
+        LogLine { hook, answer: said },
+        LogLine { hook, answer: done },
+    ];
+    lines == want.as_slice()
+}
+
+fn keeps_first_lines(alloc: Global) -> Result<(usize, usize)> {
+    let mut log = PhaseLog::new(alloc);
+    for _ in 0..MOST_LINES + 1 {
+        log.push(entry(alloc, Item::Nothing, Item::Nothing, None))?;
+    }
+    Ok((log.len(), log.lines().len()))
 }
 
 #[test]
 fn keeps_a_log(rt: HostRuntime) {
     assert!(rt; matches!(logs(rt.alloc()), Ok(true)));
+}
+
+#[test]
+fn keeps_no_more_than_the_first_lines(rt: HostRuntime) {
+    let kept = keeps_first_lines(rt.alloc());
+    assert!(rt; kept == Ok((MOST_LINES + 1, MOST_LINES)));
 }
 
 fn write_failed() -> Error {
