@@ -17,6 +17,11 @@ abbrev pub method_of : Asks → List ℕ
 method_of asks.Head = codes "HEAD"
 method_of asks.Other = codes "GET"
 
+-- a method that asks so is HEAD
+abbrev pub is_head : Asks → Bool
+is_head asks.Head = true
+is_head asks.Other = false
+
 -- what a response depends on of that method
 abbrev pub asks_of : List ℕ → Asks
 asks_of method = if bytes_eq method (codes "HEAD") then asks.Head else asks.Other

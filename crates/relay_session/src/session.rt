@@ -11,7 +11,7 @@ ghost use Rattle.relay_h1.specs.Verdict.{HasRequest};
 ghost use Rattle.relay_session.specs.Front.{Watches, ends_with_head};
 ghost use Rattle.relay_session.specs.declared.writing.Outgoing.TheVariants.{Open};
 ghost use Rattle.relay_session.specs.HeadLent.{LendsSessionHead};
-ghost use Rattle.relay_session.specs.Asked.{request_of, unread};
+ghost use Rattle.relay_session.specs.Asked.{is_head, request_of, unread};
 ghost use Rattle.relay_session.specs.Session.{AnswersRead, AnswersTo, may_begin_again, lets_ask_again};
 ghost use Rattle.relay_session.specs.Replay.{most_kept, retry_buffer};
 ghost use Rattle.relay_session.specs.declared.replay.Replay.TheVariants as Replay;
@@ -261,6 +261,13 @@ impl HttpSession {
         ensures { result ≡ lets_ask_again self.now }
     {
         self.reading.is_body_done() && self.writing.lets_ask()
+    }
+
+    /// Whether the request is a HEAD, by the head as it came, whatever `req_header_mut` did since.
+    pub fn answers_head(&self) -> bool
+        ensures { result ≡ is_head self.now.writing.request.method }
+    {
+        self.writing.answers_head()
     }
 
     /// Whether another attempt at the request may begin with the session: all bytes of the body that

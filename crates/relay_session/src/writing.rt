@@ -5,7 +5,7 @@ ghost use Rattle.relay_tasks.specs.declared.task.HttpTask.{HttpTask};
 ghost use Rattle.relay_tasks.specs.Head.{IsStatus};
 ghost use Rattle.relay_links.specs.Count.{last_count};
 ghost use Rattle.relay_h1.specs.Move.{taken};
-ghost use Rattle.relay_session.specs.Asked.{lets_ask};
+ghost use Rattle.relay_session.specs.Asked.{is_head, lets_ask};
 ghost use Rattle.relay_session.specs.TaskWire.{bytes_of, head_at, head_refusal_at, piece_at, piece_refusal_at, refusal};
 ghost use Rattle.relay_session.specs.TaskSteps.{HeadGoesOnAt, PieceGoesOnAt};
 ghost use Rattle.relay_session.specs.Generated.{answer_tasks, body_answer_tasks, AnswersText, IsKeptFault, IsFaultOrMemory};
@@ -14,7 +14,7 @@ ghost use Rattle.relay_session.specs.Response.{Holds, IsQueued, AreQueued, Takes
 use crate::batch::batch_refusal;
 use crate::front::Front;
 use crate::generated::{answer_with_body, generated_head};
-use crate::task_text::{Place, Pushed, Request, push_head_at, push_piece_at};
+use crate::task_text::{Asks, Place, Pushed, Request, push_head_at, push_piece_at};
 use bytes::Bytes;
 use relay_h1::{BodyWriter, Output};
 use relay_links::Put;
@@ -69,6 +69,16 @@ impl Writing {
         ensures { result ≡ lets_ask self.now.request }
     {
         self.request.lets_ask()
+    }
+
+    /// Whether the request that it answers is a HEAD.
+    pub(crate) fn answers_head(&self) -> bool
+        ensures { result ≡ is_head self.now.request.method }
+    {
+        match self.request.method {
+            Asks::Head => true,
+            Asks::Other => false,
+        }
     }
 
     /// Whether bytes wait for the link.
