@@ -1,4 +1,4 @@
--- An attempt that puts again what was read before: that passed the filter of requests by one call.
+-- An attempt that puts again what was read before: that passed the filters of requests first.
 use Rattle.std.proofs.Common.{◌≡◌, ℕ, Bool, true, false, List, [], drop, length, Option, Some, None, is_some, Err, refl, ap, subst, ◌∙◌, IsSome}
 use Rattle.std.specs.List.{list_any}
 use Rattle.relay_tasks.specs.Task.{is_end}
@@ -22,7 +22,6 @@ use Rattle.relay_filters.specs.Hooked.{InnerPast, IsHooked, PastBy, seen_by}
 use Rattle.relay_filters.specs.Request.{Filtered, Filters, is_last}
 use Rattle.relay_filters.specs.Segments.{InSegments}
 use Rattle.relay_filters.proofs.LentSide.{Swapped, lent_past, lost_past}
-use Rattle.relay_filters.proofs.OutcomeLemmas.{call_client}
 use Rattle.relay_filters.proofs.SegmentLemmas.{own_none, segments_none, segments_piece, segments_refused}
 use Rattle.relay_filters.proofs.SideLemmas.{Comes, begins, reads_piece, stops_at}
 
@@ -50,6 +49,7 @@ weaker inner inner' method c called log oh a ended u rf stood st p so h = record
   holds = so _ h.holds;
   own = h.own;
   parts = h.parts;
+  chains = h.chains;
   request = h.request;
   is_of_head = h.is_of_head;
   response = h.response;
@@ -64,8 +64,8 @@ none_first : list_any is_end [] ≡ true → ⊥
 none_first ended = cc
 
 module _ (s : Origin) (link : LinkState) (ahead : List ℕ) (side lent : ClientSide)
-    (app : Standing → LogEntry → Type 0) (method : List ℕ) (called : List LogEntry) (seen : Seen)
-    (mark : ℕ) (oh : Bool) (p : DownPast) (piece : Piece) (seen' : Seen) (mark' : ℕ)
+    (allows : Standing → LogEntry → Type 0) (method : List ℕ) (called : List LogEntry) (seen : Seen)
+    (mark : ℕ) (oh stand : Bool) (p : DownPast) (piece : Piece) (seen' : Seen) (mark' : ℕ)
     (stood : called ≡ seen.log) (head : IsSome (head_of side.session.reading))
     (is_put : p.put ≡ put_of false piece) (puts : is_some (task_put_of false piece) ≡ true)
     (none : p.batched ≡ [])
@@ -119,61 +119,58 @@ module _ (s : Origin) (link : LinkState) (ahead : List ℕ) (side lent : ClientS
 
     -- it passed its filter
     pub again_reads : (made : Piece)
-        → Filtered app false piece made (seen_by seen side.session) mark
+        → Filtered allows stand false piece made (seen_by seen side.session) mark
         (seen_by seen' lent.session) mark'
         → IsHooked (InnerPast None s link ahead lent) method lent.session called seen'.log oh false
         made.upstream_end false false true None (record p { put = put_of false made })
     again_reads made f =
         settled None made.upstream_end (put_of false made) _ None
         (reads_piece (λ q. Unit {0}) (λ q. InnerPast None s link ahead lent q × Same q)
-        (λ q e. Unit {0}) (λ e. Unit {0}) app method (seen_by seen side.session) mark called oh false false false
-        false false true None (record p { put = [] }) piece made (seen_by seen' lent.session) mark'
-        refl untold refl comes f
-        (again_puts None (lent_past s link ahead side lent p rest
-        (call_client app _ _ (seen_by seen side.session) mark (seen_by seen' lent.session) mark' _
-        f.call) holds)))
+        (λ q e. Unit {0}) (λ e. Unit {0}) allows method (seen_by seen side.session) mark called oh
+        false false false false false true stand None (record p { put = [] }) piece made
+        (seen_by seen' lent.session) mark' refl untold refl comes f
+        (again_puts None (lent_past s link ahead side lent p rest f.came.adds.client holds)))
 
     -- what passed inside stands behind a call that failed
     fails_so : (why : Fail)
-        → Filters app false piece (Err why) (seen_by seen side.session) mark
+        → Filters allows stand false piece (Err why) (seen_by seen side.session) mark
         (seen_by seen' lent.session) mark' → InnerPast (Some why) s link ahead lent p
     fails_so fail.OutOfMemory f = lost_past s link ahead side lent p rest holds
     fails_so (fail.Error error) f =
-        lent_past s link ahead side lent p rest
-        (call_client app _ _ (seen_by seen side.session) mark (seen_by seen' lent.session) mark' _
-        f.call) holds
+        lent_past s link ahead side lent p rest f.came.adds.client holds
 
     -- it was refused, or memory was wanted
     pub again_stops : (told : Told) (why : Fail)
-        → Filters app false piece (Err why) (seen_by seen side.session) mark
+        → Filters allows stand false piece (Err why) (seen_by seen side.session) mark
         (seen_by seen' lent.session) mark'
         → IsHooked (InnerPast (Some why) s link ahead lent) method lent.session called seen'.log oh
         false false false false true (Some why) (record p { put = [] })
     again_stops told why f =
         settled (Some why) false [] _ (error_of_fail why)
         (stops_at (λ q. Unit {0}) (λ q. InnerPast (Some why) s link ahead lent q × Same q)
-        (λ q e. Unit {0}) told app method (seen_by seen side.session) mark called oh false false false
-        false false true None (record p { put = [] }) piece why [] (seen_by seen' lent.session)
-        mark' refl untold refl refl comes f (again_puts (Some why) (fails_so why f)))
+        (λ q e. Unit {0}) told allows method (seen_by seen side.session) mark called oh false
+        false false false false true stand None (record p { put = [] }) piece why []
+        (seen_by seen' lent.session) mark' refl untold refl refl comes f
+        (again_puts (Some why) (fails_so why f)))
 
-    -- the call stands alone among the side's own
+    -- the calls stand alone among the side's own
     abbrev first_calls : InSegments oh None (drop (length called) seen.log)
     first_calls = segments_none oh (drop (length called) seen.log) (own_none called seen.log stood)
 
     pub again_calls : (made : Piece)
-        → Filtered app false piece made (seen_by seen side.session) mark
+        → Filtered allows stand false piece made (seen_by seen side.session) mark
         (seen_by seen' lent.session) mark'
         → InSegments oh None (drop (length called) seen'.log)
     again_calls made f =
         segments_piece called [] seen.log untold.parts oh None refl first_calls
-        (seen_by seen' lent.session) app (seen_by seen side.session) mark mark' false piece made
-        refl f
+        (seen_by seen' lent.session) allows (seen_by seen side.session) mark mark' stand false
+        piece made refl f
 
     pub again_refused : (why : Fail)
-        → Filters app false piece (Err why) (seen_by seen side.session) mark
+        → Filters allows stand false piece (Err why) (seen_by seen side.session) mark
         (seen_by seen' lent.session) mark'
         → InSegments oh (Some why) (drop (length called) seen'.log)
     again_refused why f =
         segments_refused called [] seen.log untold.parts oh None refl first_calls
-        (seen_by seen' lent.session) app (seen_by seen side.session) mark mark' false piece why refl
-        f
+        (seen_by seen' lent.session) allows (seen_by seen side.session) mark mark' stand false
+        piece why refl f

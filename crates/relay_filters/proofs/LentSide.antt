@@ -28,7 +28,6 @@ use Rattle.relay_filters.specs.Chain.{Refuses}
 use Rattle.relay_filters.specs.Request.{Filtered, Filters, is_last}
 use Rattle.relay_filters.specs.Response.{BatchPasses, BatchStops, Outcome}
 use Rattle.relay_filters.specs.Hooked.{BlamesInside, BlamesOver, InnerPast, IsHooked, PastBy, PastOf, RefusesOver, inside, is_lost, refused_at_once, seen_by, state_of_side}
-use Rattle.relay_filters.proofs.OutcomeLemmas.{call_client}
 use Rattle.relay_filters.proofs.SideLemmas.{Comes, batch_goes, batch_refused, batch_stops, goes_on, reads_piece, stops_at}
 
 -- ---- a session that is lost, or not
@@ -94,6 +93,7 @@ moved inner method c c' called log oh a ended u rf stood st p same h = record {
   holds = h.holds;
   own = h.own;
   parts = h.parts;
+  chains = h.chains;
   request = h.request;
   is_of_head = h.is_of_head;
   response = h.response;
@@ -173,8 +173,8 @@ puts_none (Some task) some none = cc
 -- the inner side gave a piece, and hooks were lent the session behind that
 module _ (s : Origin) (link link' : LinkState) (ahead ahead' : List ℕ)
     (side given lent : ClientSide) (blames' : DownPast → Error → Type 0)
-    (app : Standing → LogEntry → Type 0) (method : List ℕ) (seen : Seen) (mark : ℕ)
-    (called : List LogEntry) (oh a ended rf stood : Bool) (st : Option Fail) (p : DownPast)
+    (allows : Standing → LogEntry → Type 0) (method : List ℕ) (seen : Seen) (mark : ℕ)
+    (called : List LogEntry) (oh a ended rf stood stand : Bool) (st : Option Fail) (p : DownPast)
     (piece : Piece) (seen' : Seen) (mark' : ℕ) (on : st ≡ None)
     (h : IsHooked (InnerPast st s link ahead side) method side.session called seen.log oh a ended
     false rf stood st p)
@@ -211,38 +211,34 @@ module _ (s : Origin) (link link' : LinkState) (ahead ahead' : List ℕ)
 
   -- it passed
   pub lent_reads : (by : Error → Type 0) (made : Piece)
-      → Filtered app ended piece made (seen_by seen given.session) mark
+      → Filtered allows stand ended piece made (seen_by seen given.session) mark
       (seen_by seen' lent.session) mark'
       → DownGoes (IsHooked (InnerPast st s link' ahead' lent) method lent.session called seen'.log oh
       a (ended || made.upstream_end) false rf stood st)
       (λ past e. BlamesInside (InnerPast st s link' ahead' lent) blames' past e ⊎ by e)
       (p.put ++ put_of false made) p.batched p.closing None
   lent_reads by made f =
-      let same = call_client app _ _ (seen_by seen given.session) mark
-      (seen_by seen' lent.session) mark' _ f.call in
-      reads_piece (InnerPast st s link ahead side) (InnerPast st s link' ahead' lent) blames' by app
-      method (seen_by seen given.session) mark called oh a ended false false rf stood st p
-      piece made (seen_by seen' lent.session) mark' on at_call refl comes f
+      reads_piece (InnerPast st s link ahead side) (InnerPast st s link' ahead' lent) blames' by
+      allows method (seen_by seen given.session) mark called oh a ended false false rf stood stand
+      st p piece made (seen_by seen' lent.session) mark' on at_call refl comes f
       (goes_so (PastBy s link' ahead' given given.session) (InnerPast st s link' ahead' lent)
       blames' (h.came ++ put_of false piece) h.queued p.closing None
       (λ q stands. of_past (is_lost st) (PastBy s link' ahead' lent) lent.session q
-      (not_lost st on) (lent_past s link' ahead' given lent q rest same stands)) g)
+      (not_lost st on) (lent_past s link' ahead' given lent q rest f.came.adds.client stands)) g)
 
   -- what passed inside stands behind a call that failed
   fails_so : (why : Fail)
-      → Filters app ended piece (Err why) (seen_by seen given.session) mark
+      → Filters allows stand ended piece (Err why) (seen_by seen given.session) mark
       (seen_by seen' lent.session) mark'
       → (q : DownPast) → PastBy s link' ahead' given given.session q
       → InnerPast (Some why) s link' ahead' lent q
   fails_so fail.OutOfMemory f q stands = lost_past s link' ahead' given lent q rest stands
   fails_so (fail.Error error) f q stands =
-      lent_past s link' ahead' given lent q rest
-      (call_client app _ _ (seen_by seen given.session) mark (seen_by seen' lent.session) mark' _
-      f.call) stands
+      lent_past s link' ahead' given lent q rest f.came.adds.client stands
 
   -- it was refused, or memory was wanted
   pub lent_stops : (told' : Told) (why : Fail)
-      → Filters app ended piece (Err why) (seen_by seen given.session) mark
+      → Filters allows stand ended piece (Err why) (seen_by seen given.session) mark
       (seen_by seen' lent.session) mark'
       → DownGoes (IsHooked (InnerPast (Some why) s link' ahead' lent) method lent.session called
       seen'.log oh a ended false rf stood (Some why))
@@ -251,8 +247,8 @@ module _ (s : Origin) (link link' : LinkState) (ahead ahead' : List ℕ)
       (p.put ++ []) p.batched p.closing (error_of_fail why)
   lent_stops told' why f =
       stops_at (InnerPast st s link ahead side) (InnerPast (Some why) s link' ahead' lent) blames'
-      told' app method (seen_by seen given.session) mark called oh a ended false false rf stood st
-      p piece why (p.put ++ []) (seen_by seen' lent.session) mark' on at_call refl
+      told' allows method (seen_by seen given.session) mark called oh a ended false false rf stood
+      stand st p piece why (p.put ++ []) (seen_by seen' lent.session) mark' on at_call refl
       (append-nil p.put) comes f
       (goes_so (PastBy s link' ahead' given given.session)
       (InnerPast (Some why) s link' ahead' lent) blames' (h.came ++ put_of false piece) h.queued

@@ -1,3 +1,5 @@
+pub mod PieceLemmas
+mod CallLemmas
 mod DelayLemmas
 mod RequestLemmas
 mod ChainLemmas

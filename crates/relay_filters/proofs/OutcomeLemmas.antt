@@ -138,6 +138,31 @@ call_client app which input old mark new mark' left call =
 -- a call of the application
 module _ (app : Standing → LogEntry → Type 0) (modules : ModuleCall → Type 0) (which : Hook)
     (input : Item) (old : Seen) (mark : ℕ) (new : Seen) (mark' : ℕ) (left : Left)
+    (head : IsSome (head_of old.downstream.reading))
+    (call : Calls app which input old mark new mark' left) where
+  -- its entry
+  abbrev pub entry_of_app : LogEntry
+  entry_of_app = entry which input (moment (cleared old) mark) left (moment call.returned mark')
+
+  -- of a filter
+  pub adds_filter : is_module which ≡ false
+      → (filters_request which || (filters_response which || is_module_response which)) ≡ true
+      → Adds (IsAllowed app modules) old mark new mark' (entry_of_app ∷ [])
+  adds_filter is_app is_filter = record {
+    log = call.log;
+    walk = CallsOf-walks app modules None false which input old mark new mark' left call is_app;
+    plain = All-cons IsFilterCall entry_of_app [] (record {
+      is_filter = is_filter;
+      quiet = ap (λ (s : Seen). s.wrote) call.lawful.rest;
+    }) (All-nil IsFilterCall);
+    head = subst (λ (s : Seen). IsSome (head_of s.downstream.reading)) (sym call.rest)
+        (call.lawful.request.head head);
+    client = call_client app which input old mark new mark' left call;
+  }
+
+-- a call of the application on the way of a response
+module _ (app : Standing → LogEntry → Type 0) (modules : ModuleCall → Type 0) (which : Hook)
+    (input : Item) (old : Seen) (mark : ℕ) (new : Seen) (mark' : ℕ) (left : Left)
     (is_app : filters_response which ≡ true) (head : IsSome (head_of old.downstream.reading))
     (call : Calls app which input old mark new mark' left) where
   -- its entry
@@ -145,18 +170,9 @@ module _ (app : Standing → LogEntry → Type 0) (modules : ModuleCall → Type
   app_entry = entry which input (moment (cleared old) mark) left (moment call.returned mark')
 
   pub adds_call : Adds (IsAllowed app modules) old mark new mark' (app_entry ∷ [])
-  adds_call = record {
-    log = call.log;
-    walk = CallsOf-walks app modules None false which input old mark new mark' left call
-        (filter_no_module which is_app);
-    plain = All-cons IsFilterCall app_entry [] (record {
-      is_filter = either_mid (filters_request which) _ _ is_app;
-      quiet = ap (λ (s : Seen). s.wrote) call.lawful.rest;
-    }) (All-nil IsFilterCall);
-    head = subst (λ (s : Seen). IsSome (head_of s.downstream.reading)) (sym call.rest)
-        (call.lawful.request.head head);
-    client = call_client app which input old mark new mark' left call;
-  }
+  adds_call =
+      adds_filter app modules which input old mark new mark' left head call
+      (filter_no_module which is_app) (either_mid (filters_request which) _ _ is_app)
 
 -- modules that stand allow it as some
 some_allows : {M : Type 0} (allows : M → ModuleCall → Type 0) (m : Option M) (call : ModuleCall)
@@ -167,16 +183,18 @@ some_allows allows (Some m) call stand allowed = (m, allowed)
 -- a call of the modules
 module _ (app : Standing → LogEntry → Type 0) {M : Type 0} (allows : M → ModuleCall → Type 0)
     (m : Option M) (stand : IsSome m) (old : Seen) (mark : ℕ) (new : Seen) (call : ModuleCall)
-    (is_modules : is_module_response (hook_of call) ≡ true)
+    (is_filter : (filters_request (hook_of call)
+    || (filters_response (hook_of call) || is_module_response (hook_of call))) ≡ true)
     (head : IsSome (head_of old.downstream.reading))
     (made : CallsModule (AllowsMade allows m) old mark new call) where
   -- its entry
-  abbrev pub entry_of_modules : LogEntry
-  entry_of_modules = module_entry call (moment (cleared old) mark)
+  abbrev pub filter_of_modules : LogEntry
+  filter_of_modules = module_entry call (moment (cleared old) mark)
 
-  pub adds_module : Adds (IsAllowed app (SomeAllow allows)) old mark new mark
-      (entry_of_modules ∷ [])
-  adds_module = record {
+  -- of a filter
+  pub adds_modules : Adds (IsAllowed app (SomeAllow allows)) old mark new mark
+      (filter_of_modules ∷ [])
+  adds_modules = record {
     log = made.log;
     walk = (
       standing None false (moment old mark),
@@ -185,12 +203,12 @@ module _ (app : Standing → LogEntry → Type 0) {M : Type 0} (allows : M → M
         mark = refl;
         view = refl;
         by_module = subst (λ (b : Bool). LeavesIf b (standing None false (moment old mark))
-            entry_of_modules)
+            filter_of_modules)
             (sym (module_filter call))
             (record { mark = refl; keepalive = refl; wrote = refl; delay = refl });
       },
       subst (λ (b : Bool). AllowsBy b app (SomeAllow allows)
-          (standing None false (moment old mark)) entry_of_modules)
+          (standing None false (moment old mark)) filter_of_modules)
           (sym (module_filter call)) (
             call,
             record { hook = refl; input = refl; output = refl; error = refl },
@@ -206,15 +224,29 @@ module _ (app : Standing → LogEntry → Type 0) {M : Type 0} (allows : M → M
         upgraded = λ h. h;
       },
     );
-    plain = All-cons IsFilterCall entry_of_modules [] (record {
-      is_filter = either_last (filters_request (hook_of call)) (filters_response (hook_of call)) _
-          is_modules;
-      quiet = refl;
-    }) (All-nil IsFilterCall);
+    plain = All-cons IsFilterCall filter_of_modules []
+        (record { is_filter = is_filter; quiet = refl }) (All-nil IsFilterCall);
     head = subst (λ (s : Seen). IsSome (head_of s.downstream.reading)) (sym made.rest) head;
     client = subst (λ (s : Seen). SameButHead old.downstream s.downstream) (sym made.rest)
         (lent_same old.downstream);
   }
+
+-- a call of the modules on the way of a response
+module _ (app : Standing → LogEntry → Type 0) {M : Type 0} (allows : M → ModuleCall → Type 0)
+    (m : Option M) (stand : IsSome m) (old : Seen) (mark : ℕ) (new : Seen) (call : ModuleCall)
+    (is_modules : is_module_response (hook_of call) ≡ true)
+    (head : IsSome (head_of old.downstream.reading))
+    (made : CallsModule (AllowsMade allows m) old mark new call) where
+  -- its entry
+  abbrev pub entry_of_modules : LogEntry
+  entry_of_modules = module_entry call (moment (cleared old) mark)
+
+  pub adds_module : Adds (IsAllowed app (SomeAllow allows)) old mark new mark
+      (entry_of_modules ∷ [])
+  adds_module =
+      adds_modules app allows m stand old mark new call
+      (either_last (filters_request (hook_of call)) (filters_response (hook_of call)) _
+      is_modules) head made
 
 -- ---- what filters come to
 

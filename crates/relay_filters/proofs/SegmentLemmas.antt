@@ -4,22 +4,18 @@ use Rattle.std.proofs.Math.Seq.{drop-append_seam}
 use Rattle.std.proofs.lemmas.List.Elements.{All-nil, All-push}
 use Rattle.relay_tasks.specs.declared.error.Fail.{Fail}
 use Rattle.relay_tasks.specs.declared.error.Fail.TheVariants as fail
-use Rattle.relay_tasks.specs.declared.hook.Hook.TheVariants as hook
 use Rattle.relay_tasks.specs.declared.log.Item.TheVariants as item
 use Rattle.relay_tasks.specs.declared.log.LogEntry.{LogEntry}
 use Rattle.relay_tasks.specs.declared.task.HttpTask.{HttpTask}
 use Rattle.relay_core.specs.declared.piece.Piece.{Piece}
 use Rattle.relay_modules.specs.declared.seen.Seen.{Seen}
-use Rattle.relay_hooks.specs.Call.{Left, entry, failed, only}
-use Rattle.relay_hooks.specs.Session.{moment}
 use Rattle.relay_hooks.specs.Standing.{Standing}
-use Rattle.relay_calls.specs.Calls.{Calls}
-use Rattle.relay_calls.specs.Entry.{cleared}
 use Rattle.relay_filters.specs.Chain.{Refuses}
 use Rattle.relay_filters.specs.Request.{Filtered, Filters, is_last}
 use Rattle.relay_filters.specs.Response.{BatchPasses, BatchStops, Outcome}
 use Rattle.relay_filters.specs.Segments.{InSegments, LastCalls, RefusedIn, Segment, joined}
 use Rattle.relay_filters.specs.Segments as segments
+use Rattle.relay_filters.proofs.PieceLemmas.{lost_of}
 
 -- ---- lists
 
@@ -112,58 +108,32 @@ module _ (called own log : List LogEntry) (parts : log ≡ called ++ own) (oh : 
         (segments_stop oh why (drop (length called) log) fs
         (subst (λ (o : Option Fail). InSegments oh o (drop (length called) log)) on s) stops)
 
-    -- the entry of a call with a piece
-    abbrev piece_entry : (app : Standing → LogEntry → Type 0) (old : Seen) (mark mark' : ℕ)
-        (bytes : Option (List ℕ)) (end : Bool) (left : Left)
-        → Calls app hook.RequestBodyFilter (item.Piece bytes end) old mark seen' mark' left
-        → LogEntry
-    piece_entry app old mark mark' bytes end left call =
-        entry hook.RequestBodyFilter (item.Piece bytes end) (moment (cleared old) mark) left
-        (moment call.returned mark')
-
-    -- a piece passed its filter
-    pub segments_piece : (app : Standing → LogEntry → Type 0) (old : Seen) (mark mark' : ℕ)
-        (ended' : Bool) (piece made : Piece) → old.log ≡ log
-        → Filtered app ended' piece made old mark seen' mark'
+    -- a piece passed its filters
+    pub segments_piece : (allows : Standing → LogEntry → Type 0) (old : Seen) (mark mark' : ℕ)
+        (stand ended' : Bool) (piece made : Piece) → old.log ≡ log
+        → Filtered allows stand ended' piece made old mark seen' mark'
         → InSegments oh st (drop (length called) seen'.log)
-    segments_piece app old mark mark' ended' piece made same f =
-        let end = is_last piece in
-        let e = piece_entry app old mark mark' piece.bytes end (only (item.Piece f.left end))
-        f.call in
-        more_pass (e ∷ []) (f.call.log ∙ ap (λ (l : List LogEntry). l ++ e ∷ []) same)
-        (segments.Segment.of_piece e refl
-        (record {
-          given = piece.bytes;
-          left = f.left;
-          end = end;
-          is_hook = refl;
-          was = refl;
-          became = refl;
-        }) refl)
+    segments_piece allows old mark mark' stand ended' piece made same f =
+        let es = f.came.es in
+        more_pass es (f.came.adds.log ∙ ap (λ (l : List LogEntry). l ++ es) same)
+        (segments.Segment.of_piece stand f.came.call f.came.chain f.came.says)
 
-    -- it refused it, or memory was wanted
-    pub segments_refused : (app : Standing → LogEntry → Type 0) (old : Seen) (mark mark' : ℕ)
-        (ended' : Bool) (piece : Piece) (why : Fail) → old.log ≡ log
-        → Filters app ended' piece (Err why) old mark seen' mark'
+    -- one of them refused it, or memory was wanted
+    pub segments_refused : (allows : Standing → LogEntry → Type 0) (old : Seen) (mark mark' : ℕ)
+        (stand ended' : Bool) (piece : Piece) (why : Fail) → old.log ≡ log
+        → Filters allows stand ended' piece (Err why) old mark seen' mark'
         → InSegments oh (Some why) (drop (length called) seen'.log)
-    segments_refused app old mark mark' ended' piece fail.OutOfMemory same f =
-        more_stop fail.OutOfMemory [] (f ∙ same ∙ sym (append-nil log)) (inl refl)
-    segments_refused app old mark mark' ended' piece (fail.Error error) same f =
-        let end = is_last piece in
-        let e = piece_entry app old mark mark' piece.bytes end
-        (failed (item.Piece f.left end) error)
-        f.call in
-        more_stop (fail.Error error) (e ∷ [])
-        (f.call.log ∙ ap (λ (l : List LogEntry). l ++ e ∷ []) same)
-        (segments.RefusedIn.of_piece e refl
-        (record {
-          given = piece.bytes;
-          left = f.left;
-          end = end;
-          is_hook = refl;
-          was = refl;
-          became = refl;
-        }) refl)
+    segments_refused allows old mark mark' stand ended' piece fail.OutOfMemory same f =
+        more_stop fail.OutOfMemory f.es (f.adds.log ∙ ap (λ (l : List LogEntry). l ++ f.es) same)
+        (elim (lost_of f.es stand (λ m. m.call.input ≡ item.Piece piece.bytes (is_last piece)) f.are) [
+          | inl none ↦ inl none
+          | inr m ↦ inr (inl m)
+        ])
+    segments_refused allows old mark mark' stand ended' piece (fail.Error error) same f =
+        let es = f.came.es in
+        more_stop (fail.Error error) es
+        (f.came.adds.log ∙ ap (λ (l : List LogEntry). l ++ es) same)
+        (segments.RefusedIn.of_piece stand f.came.call f.came.chain f.came.says)
 
     -- a batch passed its filters
     pub segments_batch : (allows : Standing → LogEntry → Type 0) (old : Seen) (mark mark' : ℕ)
@@ -189,4 +159,4 @@ module _ (called own log : List LogEntry) (parts : log ≡ called ++ own) (oh : 
         (segments.RefusedIn.of_batch stand tasks fed refused)
     segments_stopped allows old mark mark' stand tasks fail.OutOfMemory same (es, adds, fed) =
         more_stop fail.OutOfMemory es (adds.log ∙ ap (λ (l : List LogEntry). l ++ es) same)
-        (inr (record { stand = stand; tasks = tasks; stops = fed }))
+        (inr (inr (record { stand = stand; tasks = tasks; stops = fed })))

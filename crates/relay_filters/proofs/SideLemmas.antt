@@ -1,12 +1,11 @@
 -- A side behind filters: how each answer of the inner side goes on, with the calls that it led to.
-use Rattle.std.proofs.Common.{◌≡◌, ℕ, ◌<◌, ◌⊎◌, Bool, true, false, ◌||◌, ◌&&◌, List, [], ◌∷◌, ◌++◌, drop, length, Option, Some, None, is_some, Ok, Err, arith, length-append, refl, sym, ap, subst, ◌∙◌, append-nil, append_assoc, inl, inr, true≢false, IsTrue, IsSome, option_map, unwrap_or}
+use Rattle.std.proofs.Common.{◌≡◌, ℕ, ◌⊎◌, Bool, true, false, ◌||◌, ◌&&◌, List, [], ◌∷◌, ◌++◌, drop, length, Option, Some, None, is_some, Ok, Err, arith, refl, sym, ap, subst, ◌∙◌, append-nil, append_assoc, inl, inr, true≢false, IsTrue, IsSome, option_map, unwrap_or}
 use Rattle.std.specs.List.{list_any}
 use Rattle.std.proofs.Math.Seq.{drop-append_seam}
 use Rattle.std.proofs.lemmas.List.Elements.{All-nil}
 use Rattle.relay_tasks.specs.declared.error.Error.{Error}
 use Rattle.relay_tasks.specs.declared.error.Fail.{Fail}
 use Rattle.relay_tasks.specs.declared.error.Fail.TheVariants as fail
-use Rattle.relay_tasks.specs.declared.hook.Hook.TheVariants as hook
 use Rattle.relay_tasks.specs.declared.log.Item.TheVariants as item
 use Rattle.relay_tasks.specs.declared.log.LogEntry.{LogEntry}
 use Rattle.relay_tasks.specs.declared.task.HttpTask.{HttpTask}
@@ -21,20 +20,17 @@ use Rattle.relay_core.specs.Piece.{put_of, task_put_of}
 use Rattle.relay_core.specs.declared.piece.Piece.{Piece}
 use Rattle.relay_core.specs.declared.told.Told.{Told}
 use Rattle.relay_modules.specs.declared.seen.Seen.{Seen}
-use Rattle.relay_hooks.specs.Call.{Left, entry, failed, only}
-use Rattle.relay_hooks.specs.Session.{moment}
 use Rattle.relay_hooks.specs.Standing.{Standing}
-use Rattle.relay_calls.specs.Calls.{Calls}
-use Rattle.relay_calls.specs.Entry.{cleared}
 use Rattle.relay_calls.specs.Log.{modules_in, requests_in, responses_in}
 use Rattle.relay_calls.proofs.LogLemmas.{modules_in-append, requests_in-append, responses_in-append}
 use Rattle.relay_sides.specs.Filtered.{is_head_request}
 use Rattle.relay_filters.specs.Chain.{AllPass, PassedModules, PassesModules, Refuses, by_hook, TaskChain}
-use Rattle.relay_filters.specs.Request.{Filtered, Filters, PassesRequest, PieceCall, is_last, piece_of}
+use Rattle.relay_filters.specs.Request.{Filtered, Filters, PassesRequest, PieceCall, by_pieces, is_last, piece_of, pieces_in}
 use Rattle.relay_filters.specs.Response as batches
 use Rattle.relay_filters.specs.Response.{BatchPasses, BatchStops, MakesOf, Outcome, PartsOf, Stage, WasMade}
 use Rattle.relay_filters.specs.Hooked.{BlamesInside, BlamesOver, IsHooked, RefusesOver, TakesOn, by_filter, by_inner, failure_in_front, had_stopped, inside, refused_at_once}
 use Rattle.relay_filters.proofs.ChainLemmas.{all_append, all_split, parts_append, refuses_behind}
+use Rattle.relay_filters.proofs.PieceLemmas.{OfRequest, chain_call, chain_last, chains_less, chains_more, chains_none, chains_still, lost_of, lost_parts, modules_on, piece_parts, pieces_less, pieces_more, responses_on}
 use Rattle.relay_filters.proofs.RequestLemmas.{ends_one, one_lost, one_piece, one_refused, same_request}
 
 -- ---- answers
@@ -323,11 +319,12 @@ stands_on inner inner' method c called log oh a ended ended' u u' rf stood st p 
       holds = holds;
       own = h.own;
       parts = h.parts;
+      chains = h.chains;
       request = λ not_up.
           let both = plain not_up in
-          subst (λ (b : Bool). PassesRequest a b (requests_in h.own) (st ≡ None) came' p'.put)
+          subst (λ (b : Bool). PassesRequest a b (pieces_in h.own) (st ≡ None) came' p'.put)
           (sym both.1)
-          (same_request a ended (requests_in h.own) (st ≡ None) h.came came' p.put p'.put is same
+          (same_request a ended (pieces_in h.own) (st ≡ None) h.came came' p.put p'.put is same
           (h.request both.0));
       is_of_head = h.is_of_head;
       response = same_response oh stood h.own (TakesOn st rf) p.batched p'.batched h.queued queued'
@@ -374,63 +371,41 @@ own_behind : (called own log : List LogEntry) → log ≡ called ++ own
     → drop (length called) log ≡ own
 own_behind called own log parts = rw parts (drop-append_seam called own)
 
--- what no call of a piece fails to say: the log and the head behind it
-module _ (inner : DownPast → Type 0) (app : Standing → LogEntry → Type 0) (method : List ℕ)
-    (seen : Seen) (mark : ℕ) (called : List LogEntry) (oh a ended u rf stood : Bool) (p : DownPast)
-    (h : IsHooked inner method seen.downstream called seen.log oh a ended u rf stood None p)
-    (bytes : Option (List ℕ)) (end : Bool) (seen' : Seen) (mark' : ℕ) (left : Left)
-    (call : Calls app hook.RequestBodyFilter (item.Piece bytes end) seen mark seen' mark' left)
-  where
-    -- its entry
-    abbrev pub entered : LogEntry
-    entered = entry hook.RequestBodyFilter (item.Piece bytes end) (moment (cleared seen) mark) left
-        (moment call.returned mark')
+-- the log behind more calls
+parts_behind : (called own es log log' : List LogEntry) → log ≡ called ++ own → log' ≡ log ++ es
+    → log' ≡ called ++ (own ++ es)
+parts_behind called own es log log' is is' =
+    is' ∙ ap (λ (l : List LogEntry). l ++ es) is ∙ append_assoc called own es
 
-    pub parts_on : seen'.log ≡ called ++ (h.own ++ entered ∷ [])
-    parts_on =
-        call.log ∙ ap (λ (l : List LogEntry). l ++ entered ∷ []) h.parts
-        ∙ append_assoc called h.own (entered ∷ [])
-
-    -- the response is as it was
-    pub response_as : (st : Option Fail) → (TakesOn st rf → TakesOn None rf)
-        → MakesOf oh stood (h.own ++ entered ∷ []) (TakesOn st rf) p.batched h.queued
-    response_as st off =
-        response_on oh stood h.own (h.own ++ entered ∷ []) (TakesOn None rf) (TakesOn st rf)
-        p.batched h.queued (responses_in-append h.own (entered ∷ []) ∙ append-nil
-        (responses_in h.own)) (modules_in-append h.own (entered ∷ []) ∙ append-nil
-        (modules_in h.own)) off h.response
-
-    pub head_on : IsSome (head_of seen'.downstream.reading)
-    head_on =
-        subst (λ (s : Seen). IsSome (head_of s.downstream.reading)) (sym call.rest)
-        (call.lawful.request.head (h.head refl))
-
-    pub requests_on : requests_in (h.own ++ entered ∷ []) ≡ requests_in h.own ++ entered ∷ []
-    requests_on = requests_in-append h.own (entered ∷ [])
+-- the response is as it was, behind calls of the request
+response_as : (oh rf stood : Bool) (st : Option Fail) (own es : List LogEntry)
+    (came queued : List HttpTask) → OfRequest es → (TakesOn st rf → TakesOn None rf)
+    → MakesOf oh stood own (TakesOn None rf) came queued
+    → MakesOf oh stood (own ++ es) (TakesOn st rf) came queued
+response_as oh rf stood st own es came queued of off r =
+    response_on oh stood own (own ++ es) (TakesOn None rf) (TakesOn st rf) came queued
+    (responses_on own es of) (modules_on own es of) off r
 
 -- a piece was read and filtered
 reads_open : (inner inner' : DownPast → Type 0) (blames' : DownPast → Error → Type 0) (by : Error → Type 0)
-    (app : Standing → LogEntry → Type 0) (method : List ℕ) (seen : Seen) (mark : ℕ)
-    (called : List LogEntry) (oh a ended u u' rf stood : Bool) (p : DownPast)
+    (allows : Standing → LogEntry → Type 0) (method : List ℕ) (seen : Seen) (mark : ℕ)
+    (called : List LogEntry) (oh a ended u u' rf stood stand : Bool) (p : DownPast)
     (piece made : Piece) (seen' : Seen) (mark' : ℕ)
     (h : IsHooked inner method seen.downstream called seen.log oh a ended u rf stood None p)
     → u' ≡ u
     → Comes u piece h.came
-    → Filtered app ended piece made seen mark seen' mark'
+    → Filtered allows stand ended piece made seen mark seen' mark'
     → DownGoes inner' blames' (h.came ++ put_of u piece) h.queued p.closing None
     → DownGoes (IsHooked inner' method seen'.downstream called seen'.log oh a
     (ended || made.upstream_end) u' rf stood None)
     (λ past e. BlamesInside inner' blames' past e ⊎ by e) (p.put ++ put_of u made) p.batched p.closing
     None
-reads_open inner inner' blames' by app method seen mark called oh a ended u u' rf stood p piece
-    made seen' mark' h
-    up comes f g =
+reads_open inner inner' blames' by allows method seen mark called oh a ended u u' rf stood stand p
+    piece made seen' mark' h up comes f g =
     let end = is_last piece in
-    let left = f.left in
-    let e = entered inner app method seen mark called oh a ended u rf stood p h piece.bytes
-    end seen' mark'
-    (only (item.Piece left end)) f.call in
-    let one = piece_of ended end piece.client_end (is_some piece.bytes) left in
+    let es = f.came.es in
+    let e = f.came.call in
+    let one = piece_of ended end piece.client_end (is_some piece.bytes) f.left in
     subst (λ (m : Piece). DownGoes
     (IsHooked inner' method seen'.downstream called seen'.log oh a
     (ended || m.upstream_end) u' rf stood None)
@@ -442,39 +417,26 @@ reads_open inner inner' blames' by app method seen mark called oh a ended u u' r
         came = g.past.put;
         queued = g.past.batched;
         holds = g.stands;
-        own = h.own ++ e ∷ [];
-        parts = parts_on inner app method seen mark called oh a ended u rf stood p h
-            piece.bytes end seen' mark'
-            (only (item.Piece left end)) f.call;
+        own = h.own ++ es;
+        parts = parts_behind called h.own es seen.log seen'.log h.parts f.came.adds.log;
+        chains = chains_more h.own es Going refl h.chains stand e f.came.chain Going;
         request = λ plain.
             let low = sym up ∙ plain in
             subst (λ (l : List LogEntry). PassesRequest a (ended || one.upstream_end) l
             Going g.past.put (p.put ++ put_of u one))
-            (sym (requests_on inner app method seen mark called oh a ended u rf stood p h
-            piece.bytes end seen'
-            mark' (only (item.Piece left end)) f.call))
-            (one_piece a ended end piece.client_end u (requests_in h.own) Going h.came
-            g.past.put p.put (p.put ++ put_of u one) piece left e refl (h.request low)
-            (record {
-              given = piece.bytes;
-              left = left;
-              end = end;
-              is_hook = refl;
-              was = refl;
-              became = refl;
-            }) g.is_put comes.puts comes.first
+            (sym (pieces_more h.own es Going refl h.chains stand e f.came.chain))
+            (one_piece a ended end piece.client_end u (pieces_in h.own) Going h.came
+            g.past.put p.put (p.put ++ put_of u one) piece f.left e refl (h.request low)
+            (chain_call stand es e f.came.chain) g.is_put comes.puts comes.first
             (λ is. ap (list_any is_end) g.is_put ∙ comes.ends is)
-            (ap (λ (b : Bool). p.put ++ put_of b one) low) refl refl refl);
+            (ap (λ (b : Bool). p.put ++ put_of b one) low) f.came.was f.came.became f.came.says);
         is_of_head = h.is_of_head;
         response =
-            same_response oh stood (h.own ++ e ∷ []) (TakesOn None rf) p.batched p.batched h.queued
+            same_response oh stood (h.own ++ es) (TakesOn None rf) p.batched p.batched h.queued
             g.past.batched refl g.is_batched
-            (response_as inner app method seen mark called oh a ended u rf stood p h
-            piece.bytes end seen' mark' (only (item.Piece left end)) f.call None (λ so. so));
-        head = λ on.
-            head_on inner app method seen mark called oh a ended u rf stood p h piece.bytes
-            end seen' mark'
-            (only (item.Piece left end)) f.call;
+            (response_as oh rf stood None h.own es p.batched h.queued
+            (piece_parts stand es e f.came.chain) (λ so. so) h.response);
+        head = λ on. f.came.adds.head;
         told = λ e is. cc;
       };
       is_put = refl;
@@ -483,42 +445,50 @@ reads_open inner inner' blames' by app method seen mark called oh a ended u u' r
       blamed = λ e isnt. cc;
     })
 
--- the filter refused a piece, or memory was wanted
+-- the filters refused a piece, or memory was wanted
 stops_open : (inner inner' : DownPast → Type 0) (blames' : DownPast → Error → Type 0) (told' : Told)
-    (app : Standing → LogEntry → Type 0) (method : List ℕ) (seen : Seen) (mark : ℕ)
-    (called : List LogEntry) (oh a ended u u' rf stood : Bool) (p : DownPast) (piece : Piece)
+    (allows : Standing → LogEntry → Type 0) (method : List ℕ) (seen : Seen) (mark : ℕ)
+    (called : List LogEntry) (oh a ended u u' rf stood stand : Bool) (p : DownPast) (piece : Piece)
     (why : Fail) (put : List HttpTask)
     (seen' : Seen) (mark' : ℕ)
     (h : IsHooked inner method seen.downstream called seen.log oh a ended u rf stood None p)
     → u' ≡ u → put ≡ p.put
     → Comes u piece h.came
-    → Filters app ended piece (Err why) seen mark seen' mark'
+    → Filters allows stand ended piece (Err why) seen mark seen' mark'
     → DownGoes inner' blames' (h.came ++ put_of u piece) h.queued p.closing None
     → DownGoes (IsHooked inner' method seen'.downstream called seen'.log oh a ended u' rf
     stood (Some why))
     (λ past e. BlamesOver inner' blames' (Some why) told'
     (drop (length called) seen'.log) past e) put p.batched p.closing
     (error_of_fail why)
-stops_open inner inner' blames' told' app method seen mark called oh a ended u u' rf stood p piece
-    fail.OutOfMemory
-    put seen' mark' h up same comes f g = record {
+stops_open inner inner' blames' told' allows method seen mark called oh a ended u u' rf stood stand
+    p piece fail.OutOfMemory put seen' mark' h up same comes f g =
+    let es = f.es in
+    let lost = lost_of es stand (λ m. m.call.input ≡ item.Piece piece.bytes (is_last piece)) f.are
+    in
+    record {
       past = record g.past { put = put; batched = p.batched };
       stands = record {
         came = g.past.put;
         queued = g.past.batched;
         holds = g.stands;
-        own = h.own;
-        parts = f ∙ h.parts;
+        own = h.own ++ es;
+        parts = parts_behind called h.own es seen.log seen'.log h.parts f.adds.log;
+        chains = chains_less h.own es Going refl h.chains lost (Some fail.OutOfMemory ≡ None)
+            (λ so. some_none fail.OutOfMemory so);
         request = λ plain.
-            one_lost a ended u (requests_in h.own) Going (Some fail.OutOfMemory ≡ None)
+            subst (λ (l : List LogEntry). PassesRequest a ended l (Some fail.OutOfMemory ≡ None)
+            g.past.put put)
+            (sym (pieces_less h.own es Going refl h.chains lost))
+            (one_lost a ended u (pieces_in h.own) Going (Some fail.OutOfMemory ≡ None)
             h.came g.past.put p.put put piece (λ so. some_none fail.OutOfMemory so)
-            (h.request (sym up ∙ plain)) g.is_put comes.first same;
+            (h.request (sym up ∙ plain)) g.is_put comes.first same);
         is_of_head = h.is_of_head;
         response =
-            same_response oh stood h.own (TakesOn (Some fail.OutOfMemory) rf) p.batched p.batched
-            h.queued g.past.batched refl g.is_batched
-            (response_on oh stood h.own h.own (TakesOn None rf) (TakesOn (Some fail.OutOfMemory) rf)
-            p.batched h.queued refl refl (λ so. some_none fail.OutOfMemory so.0) h.response);
+            same_response oh stood (h.own ++ es) (TakesOn (Some fail.OutOfMemory) rf) p.batched
+            p.batched h.queued g.past.batched refl g.is_batched
+            (response_as oh rf stood (Some fail.OutOfMemory) h.own es p.batched h.queued
+            (lost_parts es lost) (λ so. some_none fail.OutOfMemory so.0) h.response);
         head = λ so. some_none fail.OutOfMemory so;
         told = λ e is. cc;
       };
@@ -527,49 +497,46 @@ stops_open inner inner' blames' told' app method seen mark called oh a ended u u
       is_closing = g.is_closing;
       blamed = λ e isnt. cc;
     }
-stops_open inner inner' blames' told' app method seen mark called oh a ended u u' rf stood p piece
-    (fail.Error error) put seen' mark' h up same comes f g =
+stops_open inner inner' blames' told' allows method seen mark called oh a ended u u' rf stood stand
+    p piece (fail.Error error) put seen' mark' h up same comes f g =
     let end = is_last piece in
-    let left = failed (item.Piece f.left end) error in
-    let e = entered inner app method seen mark called oh a ended u rf stood p h piece.bytes
-    end seen' mark' left
-    f.call in
+    let es = f.came.es in
+    let e = f.came.call in
+    let ends = chain_last stand es e f.came.chain in
+    let own_ends : h.own ++ es ≡ (h.own ++ ends.front) ++ ends.last ∷ [] =
+    ap (λ (l : List LogEntry). h.own ++ l) ends.are
+    ∙ sym (append_assoc h.own ends.front (ends.last ∷ [])) in
+    let answered : ends.last.error ≡ Some error = ends.same ∙ f.came.says in
+    let parts = parts_behind called h.own es seen.log seen'.log h.parts f.came.adds.log in
     record {
       past = record g.past { put = put; batched = p.batched };
       stands = record {
         came = g.past.put;
         queued = g.past.batched;
         holds = g.stands;
-        own = h.own ++ e ∷ [];
-        parts = parts_on inner app method seen mark called oh a ended u rf stood p h
-            piece.bytes end seen' mark'
-            left f.call;
+        own = h.own ++ es;
+        parts = parts;
+        chains = chains_more h.own es Going refl h.chains stand e f.came.chain
+            (Some (fail.Error error) ≡ None);
         request = λ plain.
             subst (λ (l : List LogEntry). PassesRequest a ended l (Some (fail.Error error) ≡ None)
             g.past.put put)
-            (sym (requests_on inner app method seen mark called oh a ended u rf stood p h
-            piece.bytes end seen'
-            mark' left f.call))
-            (one_refused a ended end u (requests_in h.own) Going
+            (sym (pieces_more h.own es Going refl h.chains stand e f.came.chain))
+            (one_refused a ended end u (pieces_in h.own) Going
             (Some (fail.Error error) ≡ None) h.came g.past.put p.put put piece e refl
-            (h.request (sym up ∙ plain))
-            (record {
-              given = piece.bytes;
-              left = f.left;
-              end = end;
-              is_hook = refl;
-              was = refl;
-              became = refl;
-            }) g.is_put comes.puts comes.first (λ is. ap (list_any is_end) g.is_put ∙ comes.ends is) same refl refl);
+            (h.request (sym up ∙ plain)) (chain_call stand es e f.came.chain) g.is_put comes.puts
+            comes.first (λ is. ap (list_any is_end) g.is_put ∙ comes.ends is) same f.came.was
+            (ap (λ (o : Option Error). is_some o) f.came.says));
         is_of_head = h.is_of_head;
         response =
-            same_response oh stood (h.own ++ e ∷ []) (TakesOn (Some (fail.Error error)) rf)
+            same_response oh stood (h.own ++ es) (TakesOn (Some (fail.Error error)) rf)
             p.batched p.batched h.queued g.past.batched refl g.is_batched
-            (response_as inner app method seen mark called oh a ended u rf stood p h
-            piece.bytes end seen' mark' left f.call (Some (fail.Error error))
-            (λ so. some_none (fail.Error error) so.0));
+            (response_as oh rf stood (Some (fail.Error error)) h.own es p.batched h.queued
+            (piece_parts stand es e f.came.chain) (λ so. some_none (fail.Error error) so.0)
+            h.response);
         head = λ so. some_none (fail.Error error) so;
-        told = λ x is. by_hook h.own e refl (error_in is);
+        told = λ x is. by_hook (h.own ++ ends.front) ends.last own_ends
+            (answered ∙ error_in is);
       };
       is_put = refl;
       is_batched = refl;
@@ -577,20 +544,11 @@ stops_open inner inner' blames' told' app method seen mark called oh a ended u u
       blamed = λ x told. inr (inl (
         ap Some (fail_is (fail.Error error) x told),
         record {
-          before = h.own;
-          call = e;
-          are = own_behind called (h.own ++ e ∷ []) seen'.log
-              (parts_on inner app method seen mark called oh a ended u rf stood p h piece.bytes end
-              seen' mark' left f.call);
-          is_piece = record {
-            given = piece.bytes;
-            left = f.left;
-            end = end;
-            is_hook = refl;
-            was = refl;
-            became = refl;
-          };
-          answers = told;
+          before = h.own ++ ends.front;
+          call = ends.last;
+          are = own_behind called (h.own ++ es) seen'.log parts ∙ own_ends;
+          is_piece = ends.is_piece;
+          answers = answered ∙ told;
         },
       ));
     }
@@ -602,72 +560,60 @@ stops_open inner inner' blames' told' app method seen mark called oh a ended u u
 
 -- a piece was read and filtered
 pub reads_piece : (inner inner' : DownPast → Type 0) (blames' : DownPast → Error → Type 0) (by : Error → Type 0)
-    (app : Standing → LogEntry → Type 0) (method : List ℕ) (seen : Seen) (mark : ℕ)
-    (called : List LogEntry) (oh a ended u u' rf stood : Bool) (st : Option Fail)
+    (allows : Standing → LogEntry → Type 0) (method : List ℕ) (seen : Seen) (mark : ℕ)
+    (called : List LogEntry) (oh a ended u u' rf stood stand : Bool) (st : Option Fail)
     (p : DownPast) (piece made : Piece)
     (seen' : Seen) (mark' : ℕ) → st ≡ None
     → (h : IsHooked inner method seen.downstream called seen.log oh a ended u rf stood st p)
     → u' ≡ u
     → Comes u piece h.came
-    → Filtered app ended piece made seen mark seen' mark'
+    → Filtered allows stand ended piece made seen mark seen' mark'
     → DownGoes inner' blames' (h.came ++ put_of u piece) h.queued p.closing None
     → DownGoes (IsHooked inner' method seen'.downstream called seen'.log oh a
     (ended || made.upstream_end) u' rf stood st)
     (λ past e. BlamesInside inner' blames' past e ⊎ by e) (p.put ++ put_of u made) p.batched p.closing
     None
-reads_piece inner inner' blames' by app method seen mark called oh a ended u u' rf stood
-    (Some why) p piece made
-    seen' mark' on h = some_none why on
-reads_piece inner inner' blames' by app method seen mark called oh a ended u u' rf stood None p
-    piece made seen'
-    mark' on h =
-    reads_open inner inner' blames' by app method seen mark called oh a ended u u' rf stood p
-    piece made seen'
-    mark' h
+reads_piece inner inner' blames' by allows method seen mark called oh a ended u u' rf stood stand
+    (Some why) p piece made seen' mark' on h = some_none why on
+reads_piece inner inner' blames' by allows method seen mark called oh a ended u u' rf stood stand
+    None p piece made seen' mark' on h =
+    reads_open inner inner' blames' by allows method seen mark called oh a ended u u' rf stood
+    stand p piece made seen' mark' h
 
--- the filter refused a piece, or memory was wanted
+-- the filters refused a piece, or memory was wanted
 pub stops_at : (inner inner' : DownPast → Type 0) (blames' : DownPast → Error → Type 0) (told' : Told)
-    (app : Standing → LogEntry → Type 0) (method : List ℕ) (seen : Seen) (mark : ℕ)
-    (called : List LogEntry) (oh a ended u u' rf stood : Bool) (st : Option Fail)
+    (allows : Standing → LogEntry → Type 0) (method : List ℕ) (seen : Seen) (mark : ℕ)
+    (called : List LogEntry) (oh a ended u u' rf stood stand : Bool) (st : Option Fail)
     (p : DownPast) (piece : Piece) (why : Fail)
     (put : List HttpTask) (seen' : Seen) (mark' : ℕ) → st ≡ None
     → (h : IsHooked inner method seen.downstream called seen.log oh a ended u rf stood st p)
     → u' ≡ u
     → put ≡ p.put
     → Comes u piece h.came
-    → Filters app ended piece (Err why) seen mark seen' mark'
+    → Filters allows stand ended piece (Err why) seen mark seen' mark'
     → DownGoes inner' blames' (h.came ++ put_of u piece) h.queued p.closing None
     → DownGoes (IsHooked inner' method seen'.downstream called seen'.log oh a ended u' rf
     stood (Some why))
     (λ past e. BlamesOver inner' blames' (Some why) told'
     (drop (length called) seen'.log) past e) put p.batched p.closing
     (error_of_fail why)
-stops_at inner inner' blames' told' app method seen mark called oh a ended u u' rf stood
-    (Some before) p piece why put
-    seen' mark' on h = some_none before on
-stops_at inner inner' blames' told' app method seen mark called oh a ended u u' rf stood None p
-    piece why put seen'
-    mark' on h =
-    stops_open inner inner' blames' told' app method seen mark called oh a ended u u' rf stood p
-    piece why put seen'
-    mark' h
+stops_at inner inner' blames' told' allows method seen mark called oh a ended u u' rf stood stand
+    (Some before) p piece why put seen' mark' on h = some_none before on
+stops_at inner inner' blames' told' allows method seen mark called oh a ended u u' rf stood stand
+    None p piece why put seen' mark' on h =
+    stops_open inner inner' blames' told' allows method seen mark called oh a ended u u' rf stood
+    stand p piece why put seen' mark' h
 
 -- ---- a batch
-
--- the log behind the calls of a batch
-parts_behind : (called own es log log' : List LogEntry) → log ≡ called ++ own → log' ≡ log ++ es
-    → log' ≡ called ++ (own ++ es)
-parts_behind called own es log log' is is' =
-    is' ∙ ap (λ (l : List LogEntry). l ++ es) is ∙ append_assoc called own es
 
 -- the request is as it was
 request_same : (a ended : Bool) (own own' : List LogEntry) (on on' : Type 0)
     (came came' put put' : List HttpTask) → requests_in own' ≡ requests_in own → (on' → on)
-    → came' ≡ came → put' ≡ put → PassesRequest a ended (requests_in own) on came put
-    → PassesRequest a ended (requests_in own') on' came' put'
+    → came' ≡ came → put' ≡ put → PassesRequest a ended (pieces_in own) on came put
+    → PassesRequest a ended (pieces_in own') on' came' put'
 request_same a ended own own' on on' came came' put put' is off same same' r =
-    subst (λ (l : List LogEntry). PassesRequest a ended l on' came' put') (sym is)
-    (same_request a ended (requests_in own) on' came came' put put' same same'
+    subst (λ (l : List LogEntry). PassesRequest a ended l on' came' put') (sym (ap by_pieces is))
+    (same_request a ended (pieces_in own) on' came came' put put' same same'
     (record {
       each = r.each;
       few = r.few;
@@ -708,9 +654,11 @@ batch_open inner inner' blames' by allows method seen mark called oh a ended end
         holds = g.stands;
         own = h.own ++ es;
         parts = parts_behind called h.own es seen.log seen'.log h.parts adds.log;
+        chains = chains_still (requests_in h.own) (requests_in (h.own ++ es)) Going Going
+            (requests_same h.own es b.by_app b.by_modules parts) (λ so. so) h.chains;
         request = λ not_up.
             let both = plain not_up in
-            subst (λ (b : Bool). PassesRequest a b (requests_in (h.own ++ es)) Going g.past.put
+            subst (λ (b : Bool). PassesRequest a b (pieces_in (h.own ++ es)) Going g.past.put
             p.put) (sym both.1)
             (request_same a ended h.own (h.own ++ es) Going Going h.came g.past.put p.put p.put
             (requests_same h.own es b.by_app b.by_modules parts) (λ so. so) g.is_put refl
@@ -760,6 +708,10 @@ stops_batch inner inner' refuses told' allows method seen mark called oh a ended
         holds = so_inside (inside p h.came h.queued) h.holds;
         own = h.own ++ es;
         parts = parts_behind called h.own es seen.log seen'.log h.parts adds.log;
+        chains = chains_still (requests_in h.own) (requests_in (h.own ++ es)) Going
+            (Some (fail.Error error) ≡ None)
+            (requests_same h.own es parts.apps parts.modules parts.are)
+            (λ so. some_none (fail.Error error) so) h.chains;
         request = λ not_up.
             request_same a ended h.own (h.own ++ es) Going (Some (fail.Error error) ≡ None) h.came
             h.came p.put p.put (requests_same h.own es parts.apps parts.modules parts.are)
@@ -803,6 +755,10 @@ stops_batch inner inner' refuses told' allows method seen mark called oh a ended
         holds = so_inside (inside p h.came h.queued) h.holds;
         own = h.own ++ es;
         parts = parts_behind called h.own es seen.log seen'.log h.parts adds.log;
+        chains = chains_still (requests_in h.own) (requests_in (h.own ++ es)) Going
+            (Some fail.OutOfMemory ≡ None)
+            (requests_same h.own es parts.apps parts.modules parts.are)
+            (λ so. some_none fail.OutOfMemory so) h.chains;
         request = λ not_up.
             request_same a ended h.own (h.own ++ es) Going (Some fail.OutOfMemory ≡ None) h.came
             h.came p.put p.put (requests_same h.own es parts.apps parts.modules parts.are)
@@ -861,6 +817,8 @@ refused_open inner inner' refuses' told' allows method seen mark called oh a end
         holds = g.stands;
         own = h.own ++ es;
         parts = parts_behind called h.own es seen.log seen'.log h.parts adds.log;
+        chains = chains_still (requests_in h.own) (requests_in (h.own ++ es)) Going Going
+            (requests_same h.own es b.by_app b.by_modules parts) (λ so. so) h.chains;
         request = λ not_up.
             request_same a ended h.own (h.own ++ es) Going Going h.came g.past.put p.put p.put
             (requests_same h.own es b.by_app b.by_modules parts) (λ so. so) g.is_put refl
@@ -1036,16 +994,6 @@ at_once inner refuses told' method c called log oh a ended u rf stood stand st h
           had_stopped (stopped, again e stopped told);
     }
 
--- ---- the calls
-
--- one entry more of the request makes its part of the log longer
-pub longer : (log log' : List LogEntry) (e : LogEntry) → log' ≡ log ++ e ∷ []
-    → requests_in (e ∷ []) ≡ e ∷ [] → length (requests_in log) < length (requests_in log')
-longer log log' e is one =
-    rw is
-    (rw (requests_in-append log (e ∷ []))
-    (rw one (rw (length-append (requests_in log) (e ∷ [])) (omega arith))))
-
 -- ---- the beginning
 
 -- a side that has not stopped stopped for no error
@@ -1066,6 +1014,7 @@ begins holds method c called log oh ended u p stood head none none' own h = reco
       (subst (λ (l : List HttpTask). holds (record p { put = l })) none h);
   own = [];
   parts = sym stood ∙ sym (append-nil called);
+  chains = chains_none Going;
   request = λ plain. record {
     each = All-nil PieceCall;
     few = omega arith;

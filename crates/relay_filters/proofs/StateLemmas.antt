@@ -21,11 +21,10 @@ use Rattle.relay_calls.specs.Log.{requests_in}
 use Rattle.relay_sides.specs.Lent.{SameButHead}
 use Rattle.relay_sides.specs.declared.client_side.ClientSide.{ClientSide}
 use Rattle.relay_sides.proofs.LentLemmas.{state_lent}
-use Rattle.relay_filters.specs.Request.{Filtered, is_last, piece_of}
+use Rattle.relay_filters.specs.Request.{Filtered, by_pieces, is_last, piece_of, pieces_in}
 use Rattle.relay_filters.specs.Hooked.{seen_by, state_of_side, state_over}
 use Rattle.relay_filters.specs.declared.rested.Shown.{Shown}
 use Rattle.relay_filters.proofs.LentSide.{Swapped}
-use Rattle.relay_filters.proofs.OutcomeLemmas.{call_client}
 
 -- a side shows the same over a session that hooks were lent
 pub lent_shows : (side lent : ClientSide) → Swapped side lent
@@ -80,23 +79,22 @@ ended_behind side given piece gives last =
     by_upstream false false ends is is' = cc
 
 -- a piece that passed its filter
-pub gives_piece : (app : Standing → LogEntry → Type 0) (side given lent : ClientSide) (seen : Seen)
-    (mark : ℕ) (seen' : Seen) (mark' : ℕ) (ended : Bool) (was : Shown) (st : Option Fail)
+pub gives_piece : (allows : Standing → LogEntry → Type 0) (stand : Bool)
+    (side given lent : ClientSide) (seen : Seen) (mark : ℕ) (seen' : Seen) (mark' : ℕ)
+    (ended : Bool) (was : Shown) (st : Option Fail)
     (told : Told) (log : List LogEntry) (piece made : Piece) → st ≡ None → Swapped given lent
     → IsSome (head_of given.session.reading)
     → GivesPiece (state_of_side side) (state_of_side given) piece
-    → Filtered app ended piece made (seen_by seen given.session) mark (seen_by seen' lent.session)
-    mark'
-    → length (requests_in log) < length (requests_in seen'.log)
+    → Filtered allows stand ended piece made (seen_by seen given.session) mark
+    (seen_by seen' lent.session) mark'
+    → length (pieces_in log) < length (pieces_in seen'.log)
     → GivesPiece (state_over (state_of_side side) ended st was told log)
     (state_over (state_of_side lent) (ended || made.upstream_end) st was told seen'.log) made
-gives_piece app side given lent seen mark seen' mark' ended was (Some why) told log piece made
-    on rest some gives f called = cc
-gives_piece app side given lent seen mark seen' mark' ended was None told log piece made on rest
-    some
-    gives f called =
-    let same = call_client app _ _ (seen_by seen given.session) mark (seen_by seen' lent.session)
-    mark' _ f.call in
+gives_piece allows stand side given lent seen mark seen' mark' ended was (Some why) told log piece
+    made on rest some gives f called = cc
+gives_piece allows stand side given lent seen mark seen' mark' ended was None told log piece made
+    on rest some gives f called =
+    let same = f.came.adds.client in
     let so = subst (λ (m : Piece). Passes ended piece m) (sym f.is_made)
     (passes_so ended _ piece f.left) in
     record {
@@ -104,13 +102,13 @@ gives_piece app side given lent seen mark seen' mark' ended was None told log pi
           ap (λ (x : DownState). record x {
             request_ended = ended || made.upstream_end;
             told = told;
-            calls = length (requests_in seen'.log);
+            calls = length (pieces_in seen'.log);
           }) (lent_shows given lent rest some same ∙ gives.exact)
           ∙ ap (λ (b : Bool). record (state_of_side side) {
             request_ended = ended || made.upstream_end;
             body_done = (state_of_side side).body_done || b;
             told = told;
-            calls = length (requests_in seen'.log);
+            calls = length (pieces_in seen'.log);
           }) (sym so.client);
       ends = so.ends;
       nothing_behind = so.nothing_behind;
@@ -136,7 +134,7 @@ queues_batch side lent took ended None was told log log' tasks made done on rest
           ap (λ (x : DownState). record x {
             request_ended = ended;
             told = told;
-            calls = length (requests_in log');
+            calls = length (pieces_in log');
           }) q.exact
           ∙ ap (λ (x : DownState). record x {
             request_ended = ended;
@@ -146,7 +144,7 @@ queues_batch side lent took ended None was told log log' tasks made done on rest
             body_finished = (state_of_side took).body_finished;
             pending = (state_of_side took).pending;
             told = told;
-            calls = length (requests_in log');
+            calls = length (pieces_in log');
           }) (lent_shows side lent rest some same)
           ∙ ap (λ (es : List LogEntry). record (state_of_side side) {
             request_ended = ended;
@@ -154,7 +152,7 @@ queues_batch side lent took ended None was told log log' tasks made done on rest
             body_finished = (state_of_side took).body_finished;
             pending = (state_of_side took).pending;
             told = told;
-            calls = length es;
+            calls = length (by_pieces es);
           }) calls;
       upgraded_stays = λ up. up;
       done_stays = λ was_done. q.done_stays
@@ -183,7 +181,7 @@ refuses_batch side lent took ended None was told log log' tasks made why on rest
           ap (λ (x : DownState). record x {
             request_ended = ended;
             told = failed why told;
-            calls = length (requests_in log');
+            calls = length (pieces_in log');
           }) r.exact
           ∙ ap (λ (x : DownState). record x {
             request_ended = ended;
@@ -193,7 +191,7 @@ refuses_batch side lent took ended None was told log log' tasks made why on rest
             body_finished = (state_of_side took).body_finished;
             pending = (state_of_side took).pending;
             told = failed why told;
-            calls = length (requests_in log');
+            calls = length (pieces_in log');
           }) (lent_shows side lent rest some same)
           ∙ ap (λ (es : List LogEntry). record (state_of_side side) {
             request_ended = ended;
@@ -201,7 +199,7 @@ refuses_batch side lent took ended None was told log log' tasks made why on rest
             body_finished = (state_of_side took).body_finished;
             pending = (state_of_side took).pending;
             told = failed why told;
-            calls = length es;
+            calls = length (by_pieces es);
           }) calls;
       upgraded_stays = λ up. up;
       by_failure = λ error is. r.by_failure error (alone error is);
@@ -221,7 +219,7 @@ fails_batch side lent ended None was now told log log' tasks why on shows calls 
       ap (λ (b : Bool). record (state_over (state_of_side lent) ended (Some why) now
       (failed why told) log') { body_done = b }) shows
       ∙ ap (λ (es : List LogEntry). record (state_over (state_of_side lent) ended (Some why) now
-      (failed why told) log') { body_done = (state_of_side side).body_done; calls = length es })
+      (failed why told) log') { body_done = (state_of_side side).body_done; calls = length (by_pieces es) })
       calls;
   upgraded_stays = λ up. up;
   by_failure = λ error is.

@@ -1,34 +1,28 @@
 -- How the log goes on by a call of a side: by the calls of hooks that it led to, while between them
 -- the client's own session moves on.
-use Rattle.std.proofs.Common.{◌≡◌, ℕ, Bool, true, false, ◌||◌, if◌then◌else◌, List, [], ◌∷◌, Option, Some, None, is_some, Err, append-nil, refl, sym, ap, subst, true≢false, ◌∙◌, IsSome, unwrap_or}
-use Rattle.std.proofs.lemmas.List.Elements.{All-cons, All-nil}
+use Rattle.std.proofs.Common.{◌≡◌, ℕ, ◌+◌, Bool, true, false, ◌||◌, if◌then◌else◌, List, [], ◌∷◌, ◌++◌, Option, Some, None, is_some, Err, append-nil, arith, inl, inr, length, length-append, refl, sym, ap, subst, true≢false, ◌∙◌, IsSome, unwrap_or}
+use Rattle.std.proofs.lemmas.List.Elements.{All-nil}
 use Rattle.relay_tasks.specs.Head.{RequestHead, new_request}
+use Rattle.relay_tasks.specs.declared.error.Error.{Error}
 use Rattle.relay_tasks.specs.declared.error.Fail.{Fail}
 use Rattle.relay_tasks.specs.declared.error.Fail.TheVariants as fail
-use Rattle.relay_tasks.specs.declared.hook.Hook.TheVariants as hook
-use Rattle.relay_tasks.specs.declared.log.Item.TheVariants as item
 use Rattle.relay_tasks.specs.declared.log.LogEntry.{LogEntry}
 use Rattle.relay_tasks.specs.declared.task.HttpTask.{HttpTask}
 use Rattle.relay_session.specs.Reading.{head_of}
 use Rattle.relay_session.specs.declared.session.HttpSession.{HttpSession}
 use Rattle.relay_core.specs.declared.piece.Piece.{Piece}
-use Rattle.relay_modules.specs.Module.{ModuleCall}
 use Rattle.relay_modules.specs.declared.seen.Seen.{Seen}
-use Rattle.relay_hooks.specs.Call.{Left, entry}
 use Rattle.relay_hooks.specs.Session.{moment}
 use Rattle.relay_hooks.specs.Standing.{Standing, standing}
-use Rattle.relay_calls.specs.Calls.{Calls}
-use Rattle.relay_calls.specs.Entry.{cleared}
-use Rattle.relay_calls.specs.Log.{IsAllowed, Views, Walk}
-use Rattle.relay_calls.proofs.CallLemmas.{CallsOf-walks}
-use Rattle.relay_calls.proofs.LogLemmas.{Views-same, Walk-append, Walk-behind}
+use Rattle.relay_calls.specs.Log.{Views, Walk, requests_in}
+use Rattle.relay_calls.proofs.LogLemmas.{Walk-append, Walk-behind, requests_in-append}
 use Rattle.relay_sides.specs.Client.{IsLasting}
 use Rattle.relay_filters.specs.Chain.{Refuses}
-use Rattle.relay_filters.specs.Request.{Filtered, Filters, is_last}
+use Rattle.relay_filters.specs.Request.{Came, Filtered, Filters, LetsOn, OfPiece, PieceChain, is_last}
 use Rattle.relay_filters.specs.Response.{Adds, BatchPasses, BatchStops, IsFilterCall, Outcome}
-use Rattle.relay_filters.specs.Hooked.{Lasts, Stays, Walks, WalksTo, is_lost, refused_at_once, seen_by, stood_head}
+use Rattle.relay_filters.specs.Hooked.{Lasts, LedTo, Stays, Walks, WalksTo, is_lost, refused_at_once, seen_by, stood_head}
 use Rattle.relay_filters.proofs.LentSide.{takes_head}
-use Rattle.relay_filters.proofs.OutcomeLemmas.{call_client}
+use Rattle.relay_filters.proofs.PieceLemmas.{lost_parts, piece_parts}
 use Rattle.relay_filters.proofs.SideLemmas.{some_none}
 
 -- ---- what stays
@@ -105,93 +99,112 @@ lasts_same app allows a oh lost seen c mark =
 
 -- ---- a piece
 
--- the call of its filter, behind what the inner side did
-walks_call : (app : Standing → LogEntry → Type 0) (modules : ModuleCall → Type 0) (seen : Seen)
-    (c c' : HttpSession) (mark : ℕ) (bytes : Option (List ℕ)) (end : Bool) (new : Seen) (mark' : ℕ)
-    (left : Left) → IsLasting c c'
-    → Calls app hook.RequestBodyFilter (item.Piece bytes end) (seen_by seen c') mark new mark' left
-    → WalksTo (IsAllowed app modules) (seen_by seen c) mark new mark'
-walks_call app modules seen c c' mark bytes end new mark' left lasts call =
-    let e = entry hook.RequestBodyFilter (item.Piece bytes end)
-    (moment (cleared (seen_by seen c')) mark) left (moment call.returned mark') in
-    record {
-      es = e ∷ [];
-      log = call.log;
-      walk = Walk-behind (IsAllowed app modules) (e ∷ [])
-          (standing None false (moment (seen_by seen c) mark))
-          (standing None false (moment (seen_by seen c') mark))
-          (standing None false (moment new mark')) (views_on seen c c' mark lasts)
-          (CallsOf-walks app modules None false hook.RequestBodyFilter (item.Piece bytes end)
-          (seen_by seen c') mark new mark' left call refl);
-      plain = All-cons IsFilterCall e []
-          (record { is_filter = refl; quiet = ap (λ (s : Seen). s.wrote) call.lawful.rest })
-          (All-nil IsFilterCall);
-    }
-
--- the session behind the call has a head
-call_head : (app : Standing → LogEntry → Type 0) (seen : Seen) (c c' : HttpSession) (mark : ℕ)
-    (bytes : Option (List ℕ)) (end : Bool) (new : Seen) (mark' : ℕ) (left : Left)
-    → IsSome (head_of c.reading) → IsLasting c c'
-    → Calls app hook.RequestBodyFilter (item.Piece bytes end) (seen_by seen c') mark new mark' left
-    → IsSome (head_of new.downstream.reading)
-call_head app seen c c' mark bytes end new mark' left head lasts call =
-    (call_client app hook.RequestBodyFilter (item.Piece bytes end) (seen_by seen c') mark new mark'
-    left call).head
-    (subst (λ (o : Option RequestHead). IsSome o) (sym lasts.head) head)
+-- the calls of its filters, behind what the inner side did
+walks_calls : (allows : Standing → LogEntry → Type 0) (seen : Seen) (c c' : HttpSession) (mark : ℕ)
+    (new : Seen) (mark' : ℕ) (es : List LogEntry) → IsLasting c c'
+    → Adds allows (seen_by seen c') mark new mark' es → WalksTo allows (seen_by seen c) mark new mark'
+walks_calls allows seen c c' mark new mark' es lasts adds = record {
+  es = es;
+  log = adds.log;
+  walk = Walk-behind allows es (standing None false (moment (seen_by seen c) mark))
+      (standing None false (moment (seen_by seen c') mark))
+      (standing None false (moment new mark')) (views_on seen c c' mark lasts) adds.walk;
+  plain = adds.plain;
+}
 
 -- it passed
-pub lasts_piece : {A : Type 0} (it : A) (app : Standing → LogEntry → Type 0)
-    (modules : ModuleCall → Type 0) (a oh : Bool) (st : Option Fail) (seen : Seen)
-    (c c' lent : HttpSession) (mark : ℕ) (ended : Bool) (piece made : Piece) (seen' : Seen)
-    (mark' : ℕ) → st ≡ None → IsSome (head_of c.reading) → IsLasting c c'
-    → Filtered app ended piece made (seen_by seen c') mark (seen_by seen' lent) mark'
-    → Lasts (IsAllowed app modules) (stays_at it a oh (is_lost st) c)
-    (stays_at it a oh (is_lost st) lent) (is_lost st) (is_lost st) (seen_by seen c) mark
-    (seen_by seen' lent) mark'
-lasts_piece it app modules a oh (Some why) seen c c' lent mark ended piece made seen' mark' on head
+pub lasts_piece : {A : Type 0} (it : A) (allows : Standing → LogEntry → Type 0) (a oh : Bool)
+    (st : Option Fail) (seen : Seen) (c c' lent : HttpSession) (mark : ℕ) (stand ended : Bool)
+    (piece made : Piece) (seen' : Seen) (mark' : ℕ) → st ≡ None → IsSome (head_of c.reading)
+    → IsLasting c c'
+    → Filtered allows stand ended piece made (seen_by seen c') mark (seen_by seen' lent) mark'
+    → Lasts allows (stays_at it a oh (is_lost st) c) (stays_at it a oh (is_lost st) lent)
+    (is_lost st) (is_lost st) (seen_by seen c) mark (seen_by seen' lent) mark'
+lasts_piece it allows a oh (Some why) seen c c' lent mark stand ended piece made seen' mark' on head
     lasts f = some_none why on
-lasts_piece it app modules a oh None seen c c' lent mark ended piece made seen' mark' on head lasts
+lasts_piece it allows a oh None seen c c' lent mark stand ended piece made seen' mark' on head lasts
     f = record {
       stays = ap (λ (o : Option RequestHead). stays_with it a oh o)
-          (head_stays false false c lent head
-          (λ kept. call_head app seen c c' mark piece.bytes (is_last piece) (seen_by seen' lent)
-          mark' _ head lasts f.call));
-      walks = walks_call app modules seen c c' mark piece.bytes (is_last piece)
-          (seen_by seen' lent) mark' _ lasts f.call;
+          (head_stays false false c lent head (λ kept. f.came.adds.head));
+      walks = walks_calls allows seen c c' mark (seen_by seen' lent) mark' f.came.es lasts
+          f.came.adds;
     }
 
 -- it was refused, or memory was wanted
-pub lasts_refused : {A : Type 0} (it : A) (app : Standing → LogEntry → Type 0)
-    (modules : ModuleCall → Type 0) (a oh : Bool) (st : Option Fail) (why : Fail) (seen : Seen)
-    (c c' lent : HttpSession) (mark : ℕ) (ended : Bool) (piece : Piece) (seen' : Seen)
-    (mark' : ℕ) → st ≡ None → IsSome (head_of c.reading) → IsLasting c c'
-    → Filters app ended piece (Err why) (seen_by seen c') mark (seen_by seen' lent) mark'
-    → Lasts (IsAllowed app modules) (stays_at it a oh (is_lost st) c)
+pub lasts_refused : {A : Type 0} (it : A) (allows : Standing → LogEntry → Type 0) (a oh : Bool)
+    (st : Option Fail) (why : Fail) (seen : Seen) (c c' lent : HttpSession) (mark : ℕ)
+    (stand ended : Bool) (piece : Piece) (seen' : Seen) (mark' : ℕ) → st ≡ None
+    → IsSome (head_of c.reading) → IsLasting c c'
+    → Filters allows stand ended piece (Err why) (seen_by seen c') mark (seen_by seen' lent) mark'
+    → Lasts allows (stays_at it a oh (is_lost st) c)
     (stays_at it a oh (is_lost (Some why)) lent) (is_lost st) (is_lost (Some why)) (seen_by seen c)
     mark (seen_by seen' lent) mark'
-lasts_refused it app modules a oh (Some before) why seen c c' lent mark ended piece seen' mark'
-    on head lasts f = some_none before on
-lasts_refused it app modules a oh None (fail.Error error) seen c c' lent mark ended piece seen'
+lasts_refused it allows a oh (Some before) why seen c c' lent mark stand ended piece seen' mark' on
+    head lasts f = some_none before on
+lasts_refused it allows a oh None (fail.Error error) seen c c' lent mark stand ended piece seen'
     mark' on head lasts f = record {
       stays = ap (λ (o : Option RequestHead). stays_with it a oh o)
-          (head_stays false false c lent head
-          (λ kept. call_head app seen c c' mark piece.bytes (is_last piece) (seen_by seen' lent)
-          mark' _ head lasts f.call));
-      walks = walks_call app modules seen c c' mark piece.bytes (is_last piece)
-          (seen_by seen' lent) mark' _ lasts f.call;
+          (head_stays false false c lent head (λ kept. f.came.adds.head));
+      walks = walks_calls allows seen c c' mark (seen_by seen' lent) mark' f.came.es lasts
+          f.came.adds;
     }
-lasts_refused it app modules a oh None fail.OutOfMemory seen c c' lent mark ended piece seen' mark'
+lasts_refused it allows a oh None fail.OutOfMemory seen c c' lent mark stand ended piece seen' mark'
     on head lasts f = record {
       stays = ap (λ (o : Option RequestHead). stays_with it a oh o)
           (head_stays false true c lent head (λ kept. absurd (true≢false kept)));
       walks = record {
-        es = [];
-        to = standing None false (moment (seen_by seen c) mark);
-        log = f ∙ sym (append-nil seen.log);
-        walk = Views-same _;
-        plain = All-nil IsFilterCall;
+        es = f.es;
+        to = f.adds.to;
+        log = f.adds.log;
+        walk = Walk-behind allows f.es (standing None false (moment (seen_by seen c) mark))
+            (standing None false (moment (seen_by seen c') mark)) f.adds.to
+            (views_on seen c c' mark lasts) f.adds.walk;
+        plain = f.adds.plain;
       };
     }
+
+-- ---- which calls of the request
+
+-- none
+pub led_none : (stand : Bool) (old new : Seen) → new.log ≡ old.log → LedTo stand old new
+led_none stand old new same = record {
+  es = [];
+  log = same ∙ sym (append-nil old.log);
+  piece = OfPiece.none refl;
+}
+
+-- those of a piece, whether it passed or was refused
+pub led_came : (allows : Standing → LogEntry → Type 0) (stand : Bool)
+    (bytes left : Option (List ℕ)) (end : Bool) (error : Option Error) (seen : Seen)
+    (c : HttpSession) (mark : ℕ) (seen' : Seen) (c' : HttpSession) (mark' : ℕ)
+    → Came allows stand bytes left end error (seen_by seen c) mark (seen_by seen' c') mark'
+    → LedTo stand seen seen'
+led_came allows stand bytes left end error seen c mark seen' c' mark' f = record {
+  es = f.es;
+  log = f.adds.log;
+  piece = OfPiece.whole f.call
+      (subst (λ (l : List LogEntry). PieceChain stand l f.call)
+      (sym (piece_parts stand f.es f.call f.chain).requests) f.chain);
+}
+
+-- and where memory was wanted
+pub led_refused : (allows : Standing → LogEntry → Type 0) (stand ended : Bool) (piece : Piece)
+    (why : Fail) (seen : Seen) (c : HttpSession) (mark : ℕ) (seen' : Seen) (c' : HttpSession)
+    (mark' : ℕ)
+    → Filters allows stand ended piece (Err why) (seen_by seen c) mark (seen_by seen' c') mark'
+    → LedTo stand seen seen'
+led_refused allows stand ended piece (fail.Error e) seen c mark seen' c' mark' f =
+    led_came allows stand piece.bytes f.left (is_last piece) (Some e) seen c mark seen' c' mark'
+    f.came
+led_refused allows stand ended piece fail.OutOfMemory seen c mark seen' c' mark' f = record {
+  es = f.es;
+  log = f.adds.log;
+  piece = elim f.are [
+    | inl none ↦ OfPiece.none (ap requests_in none)
+    | inr lets ↦ OfPiece.lost lets.0
+        (subst LetsOn (sym (lost_parts f.es (inr lets.1)).requests) lets.1)
+  ];
+}
 
 -- ---- a batch
 
@@ -256,3 +269,36 @@ lasts_stopped it allows a oh None fail.OutOfMemory rf stand tasks seen c lent ma
         plain = adds.plain;
       };
     }
+
+-- ---- which calls of the request a batch led to
+
+-- none
+pub led_batch : (stand : Bool) (old new : Seen) (es : List LogEntry) → new.log ≡ old.log ++ es
+    → requests_in new.log ≡ requests_in old.log → LedTo stand old new
+led_batch stand old new es log same = record {
+  es = es;
+  log = log;
+  piece = OfPiece.none (none_more (requests_in old.log) (requests_in es)
+      (sym (requests_in-append old.log es) ∙ sym (ap requests_in log) ∙ same));
+}
+  where
+    none_more : (a b : List LogEntry) → a ++ b ≡ a → b ≡ []
+    none_more a [] is = refl
+    none_more a (x ∷ b) is =
+        let longer : length (a ++ x ∷ b) ≡ length a + length (x ∷ b) = length-append a (x ∷ b) in
+        let same : length (a ++ x ∷ b) ≡ length a = ap (λ (l : List LogEntry). length l) is in
+        let one : length (x ∷ b) ≡ length b + 1 = omega arith in
+        absurd (omega (arith, longer, same, one))
+
+-- where it did not pass
+pub led_stopped : (allows : Standing → LogEntry → Type 0) (oh stand stands : Bool)
+    (tasks : List HttpTask) (why : Fail) (seen : Seen) (c : HttpSession) (mark : ℕ) (seen' : Seen)
+    (c' : HttpSession) (mark' : ℕ)
+    → Outcome {Y = List HttpTask} allows (λ es out. BatchPasses oh stand tasks es out)
+    (BatchStops oh stand tasks) (Refuses oh) (Err why) (seen_by seen c) mark (seen_by seen' c')
+    mark'
+    → requests_in seen'.log ≡ requests_in seen.log → LedTo stands seen seen'
+led_stopped allows oh stand stands tasks (fail.Error error) seen c mark seen' c' mark'
+    (es, adds, fed, refused) same = led_batch stands seen seen' es adds.log same
+led_stopped allows oh stand stands tasks fail.OutOfMemory seen c mark seen' c' mark'
+    (es, adds, fed) same = led_batch stands seen seen' es adds.log same

@@ -24,7 +24,7 @@ use Rattle.relay_sides.specs.Client.{IsSide, state_of}
 use Rattle.relay_sides.specs.Filtered.{is_head_request, stops_for_error}
 use Rattle.relay_sides.specs.declared.client_side.ClientSide.{ClientSide}
 use Rattle.relay_filters.specs.Chain.{Refuses}
-use Rattle.relay_filters.specs.Request.{PassesRequest, PieceCall}
+use Rattle.relay_filters.specs.Request.{InChains, OfPiece, PassesRequest, PieceCall, pieces_in}
 use Rattle.relay_filters.specs.Response.{BatchStops, IsFilterCall, MakesOf, WasMade}
 use Rattle.relay_filters.specs.Segments.{InSegments}
 use Rattle.relay_filters.specs.declared.rested.Rested.{Rested}
@@ -52,17 +52,17 @@ shown_done stopped was now = if is_some stopped then was else now
 abbrev pub shown_pending : Option Fail → Bool → Bool → Bool
 shown_pending stopped was now = if is_lost stopped then was else now
 
--- the state of the side over that of its inner one: the request ends where the filter lets it end,
+-- the state of the side over that of its inner one: the request ends where the filters let it end,
 -- a body whose last piece did not pass has not ended, the side tells of its own answers, and the
--- calls of hooks that its reads have made are those of the request in the log. `was` is what the
--- side showed when it stopped
+-- calls of hooks that its reads have made are those of the request in the log, those of each piece
+-- as one. `was` is what the side showed when it stopped
 abbrev pub state_over : DownState → Bool → Option Fail → Shown → Told → List LogEntry → DownState
 state_over inner ended stopped was told log = record inner {
   request_ended = ended;
   body_done = shown_done stopped was.body_done inner.body_done;
   pending = shown_pending stopped was.pending inner.pending;
   told = told;
-  calls = length (requests_in log);
+  calls = length (pieces_in log);
 }
 
 -- the error of a failure in front
@@ -148,6 +148,13 @@ pub record Lasts {A : Type 0} (allows : Standing → LogEntry → Type 0)
   pub stays : new_stays ≡ old_stays
   pub walks : Walks allows was_lost lost old mark new mark'
 
+-- one call of the side entered these calls of the request: those of the piece that it read, the
+-- modules' first where modules stood, or none
+pub record LedTo (stand : Bool) (old new : Seen) : Type 0 where
+  pub es : List LogEntry
+  pub log : new.log ≡ old.log ++ es
+  pub piece : OfPiece stand (requests_in es)
+
 -- a side still holds the session, the context and the rest of it that it was made over: each is
 -- behind the same reference, by its name
 pub record SameNames {N : Type 0} (old_session new_session old_ctx new_ctx old_side new_side : N)
@@ -180,9 +187,10 @@ abbrev pub TakesOn : Option Fail → Bool → Type 0
 TakesOn stopped refused = (stopped ≡ None) × (refused ≡ false)
 
 -- what passed through a side whose calls stand in the log behind those: what the inner side put
--- passed the filter of requests by these calls, what it was given is what the filters of responses
--- made, and all else passed as it did inside. `stood` says that modules stood for each batch. Of
--- the request of a client that was upgraded nothing is said
+-- passed the filters of requests by these calls, those of each piece as one, what it was given is
+-- what the filters of responses made, and all else passed as it did inside. `stood` says that
+-- modules stood for each batch. Of the request of a client that was upgraded nothing is said but
+-- which calls each piece led to
 pub record IsHooked (inner : DownPast → Type 0) (method : List ℕ) (client : HttpSession)
     (called log : List LogEntry) (of_head at_first ended upgraded refused stood : Bool)
     (stopped : Option Fail) (p : DownPast) : Type 0 where
@@ -191,8 +199,9 @@ pub record IsHooked (inner : DownPast → Type 0) (method : List ℕ) (client : 
   pub holds : inner (inside p came queued)
   pub own : List LogEntry
   pub parts : log ≡ called ++ own
+  pub chains : InChains (requests_in own) (stopped ≡ None)
   pub request : upgraded ≡ false
-      → PassesRequest at_first ended (requests_in own) (stopped ≡ None) came p.put
+      → PassesRequest at_first ended (pieces_in own) (stopped ≡ None) came p.put
   pub is_of_head : of_head ≡ is_head_request method
   pub response : MakesOf of_head stood own (TakesOn stopped refused) p.batched queued
   pub head : stopped ≡ None → IsSome (head_of client.reading)
@@ -224,7 +233,8 @@ abbrev pub put_by : Result Piece Fail → List HttpTask
 put_by (Ok made) = put_of false made
 put_by (Err why) = []
 
--- the last of these calls is one of the filter of requests, which answered that error
+-- the last of these calls is one of a filter of requests, the modules' or the application's, which
+-- answered that error
 pub record RefusesPiece (e : Error) (es : List LogEntry) : Type 0 where
   pub before : List LogEntry
   pub call : LogEntry
@@ -236,8 +246,8 @@ pub record RefusesPiece (e : Error) (es : List LogEntry) : Type 0 where
 abbrev pub HadStopped : Option Fail → Told → Error → Type 0
 HadStopped stopped told e = (stopped ≡ Some (fail.Error e)) × (told.errors ≡ 1 → ⊥)
 
--- the side stopped for that error: the filter of requests answered it, by the last of the side's
--- own calls; or it had stopped before
+-- the side stopped for that error: a filter of requests answered it, by the last of the side's own
+-- calls; or it had stopped before
 abbrev pub StoppedFor : Option Fail → Told → List LogEntry → Error → Type 0
 StoppedFor stopped told own e =
     ((stopped ≡ Some (fail.Error e)) × RefusesPiece e own) ⊎ HadStopped stopped told e

@@ -7,19 +7,20 @@ use Rattle.relay_tasks.specs.declared.error.Fail.TheVariants as fail
 use Rattle.relay_tasks.specs.declared.log.LogEntry.{LogEntry}
 use Rattle.relay_tasks.specs.declared.task.HttpTask.{HttpTask}
 use Rattle.relay_filters.specs.Chain.{Refuses}
-use Rattle.relay_filters.specs.Request.{PieceCall}
+use Rattle.relay_filters.specs.Request.{LetsOn, PieceChain}
 use Rattle.relay_filters.specs.Response.{BatchPasses, BatchStops}
 
 -- all calls of a piece, or of a batch, that passed
 pub data Segment (of_head : Bool) (es : List LogEntry) : Type 0 where
-  of_piece : (e : LogEntry) → es ≡ e ∷ [] → PieceCall e → e.error ≡ None → Segment of_head es
+  of_piece : (stand : Bool) (call : LogEntry) → PieceChain stand es call → call.error ≡ None
+      → Segment of_head es
   of_batch : (stand : Bool) (tasks made : List HttpTask) → BatchPasses of_head stand tasks es made
       → Segment of_head es
 
 -- all calls of a piece, or of a batch, that was refused with that error
 pub data RefusedIn (of_head : Bool) (error : Error) (es : List LogEntry) : Type 0 where
-  of_piece : (e : LogEntry) → es ≡ e ∷ [] → PieceCall e → e.error ≡ Some error
-      → RefusedIn of_head error es
+  of_piece : (stand : Bool) (call : LogEntry) → PieceChain stand es call
+      → call.error ≡ Some error → RefusedIn of_head error es
   of_batch : (stand : Bool) (tasks : List HttpTask) → BatchStops of_head stand tasks es
       → Refuses of_head error es → RefusedIn of_head error es
 
@@ -30,12 +31,11 @@ pub record StopsIn (of_head : Bool) (es : List LogEntry) : Type 0 where
   pub stops : BatchStops of_head stand tasks es
 
 -- the last calls of a side, by why it stopped: none where it goes on; those of what was refused; or
--- those of a batch before the one that wanted memory, or none where a piece did, since such a call
--- has no entry
+-- those of a piece or a batch before the one that wanted memory, since such a call has no entry
 abbrev pub LastCalls : Bool → Option Fail → List LogEntry → Type 0
 LastCalls of_head None es = es ≡ []
 LastCalls of_head (Some (fail.Error error)) es = RefusedIn of_head error es
-LastCalls of_head (Some fail.OutOfMemory) es = (es ≡ []) ⊎ StopsIn of_head es
+LastCalls of_head (Some fail.OutOfMemory) es = (es ≡ []) ⊎ (LetsOn es ⊎ StopsIn of_head es)
 
 -- segments, one behind the other
 abbrev pub joined : List (List LogEntry) → List LogEntry

@@ -4,7 +4,7 @@ ghost use Rattle.std.specs.Prelude.{◌≡◌, ◌⊎◌, drop, length, is_some,
 ghost use Rattle.relay_sides.specs.Client.{CannotEnd, ClientBlames, ClientRefuses};
 ghost use Rattle.relay_calls.specs.Log.{IsAllowed};
 ghost use Rattle.relay_filters.specs.Response.{SomeAllow};
-ghost use Rattle.relay_filters.specs.Hooked.{BlamesOver, HookedPast, InnerPast, Lasts, RefusesOver, SameNames, is_lost, seen_by, state_of_side, state_over, stays_of};
+ghost use Rattle.relay_filters.specs.Hooked.{BlamesOver, HookedPast, InnerPast, Lasts, LedTo, RefusesOver, SameNames, is_lost, seen_by, state_of_side, state_over, stays_of};
 
 use crate::lent::{pass_piece, pass_tasks};
 use crate::request::either;
@@ -19,8 +19,9 @@ use relay_tasks::{ErrorSource, Fail, Result, TaskList, Took};
 /// session. Each is shown the client's own session, which is lent to it and read and written by
 /// none but the inner side.
 ///
-/// Each piece of the request passes the filter of request bodies. What that leaves empty puts
-/// nothing, and where it takes a piece away the request ends.
+/// Each piece of the request passes the modules' filter of request bodies, where modules were made,
+/// and then the application's. What these leave empty puts nothing, and where they take a piece away
+/// the request ends.
 ///
 /// Each batch of the response passes the application's filters, all its tasks, and then those of
 /// the modules, where modules were made. What these made of it is given to the inner side, the
@@ -95,7 +96,8 @@ impl<'a, SV: ProxyHttp, F: Front> Down<F> for Hooked<'a, SV> {
 
     ghost start = { F.start };
 
-    // It also holds what it was made over.
+    // A piece leads to the modules' filter first, where modules stood as the call began. It also
+    // holds what it was made over.
     ghost lasts = { λ old new. Lasts
         (IsAllowed (SV.allows old.app.now) (SomeAllow SV.Modules.allows))
         (stays_of old.app.now old.side.now) (stays_of new.app.now new.side.now)
@@ -104,8 +106,9 @@ impl<'a, SV: ProxyHttp, F: Front> Down<F> for Hooked<'a, SV> {
         (SV.mark_of old.app.now old.ctx.now)
         (seen_by new.session.now.seen new.side.now.inner.session)
         (SV.mark_of new.app.now new.ctx.now)
-        × SameNames old.session.ghost_name new.session.ghost_name old.ctx.ghost_name
-        new.ctx.ghost_name old.side.ghost_name new.side.ghost_name };
+        × (SameNames old.session.ghost_name new.session.ghost_name old.ctx.ghost_name
+        new.ctx.ghost_name old.side.ghost_name new.side.ghost_name
+        × LedTo (is_some old.session.now.modules) old.session.now.seen new.session.now.seen) };
 
     fn may_read(&self) -> bool {
         !(Down::<F>::body_done(self) && self.side.inner.is_answered())

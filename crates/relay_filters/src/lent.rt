@@ -8,7 +8,7 @@ ghost use Rattle.relay_session.specs.Reading.{head_of};
 ghost use Rattle.relay_core.specs.Pipe.{is_failure};
 ghost use Rattle.relay_calls.specs.Log.{IsAllowed, requests_in};
 ghost use Rattle.relay_filters.specs.Chain.{Refuses};
-ghost use Rattle.relay_filters.specs.Request.{Filters};
+ghost use Rattle.relay_filters.specs.Request.{Filters, pieces_in};
 ghost use Rattle.relay_filters.specs.Response.{BatchPasses, BatchStops, Outcome, SomeAllow};
 ghost use Rattle.relay_filters.specs.Hooked.{seen_by};
 
@@ -19,7 +19,7 @@ use relay_hooks::{ProxyHttp, Session};
 use relay_sides::ClientSide;
 use relay_tasks::{HttpTask, Result, TaskList};
 
-/// Passes a piece through the filter of request bodies, which is shown the session of that side.
+/// Passes a piece through the filters of request bodies, which are shown the session of that side.
 ///
 /// As `filter_piece`.
 pub(crate) fn pass_piece<SV: ProxyHttp>(
@@ -31,11 +31,12 @@ pub(crate) fn pass_piece<SV: ProxyHttp>(
     piece: Piece,
 ) -> Result<Piece>
     requires { IsSome (head_of inner.old.session.reading) }
-    ensures filters { Filters (SV.allows app.now) ended piece result
+    ensures filters { Filters (IsAllowed (SV.allows app.now) (SomeAllow SV.Modules.allows))
+        (is_some session.old.modules) ended piece result
         (seen_by session.old.seen inner.old.session) (SV.mark_of app.now ctx.old)
         (seen_by session.new.seen inner.new.session) (SV.mark_of app.now ctx.new) }
-    ensures called { OnOk result (length (requests_in session.old.seen.log)
-        < length (requests_in session.new.seen.log)) }
+    ensures called { OnOk result (length (pieces_in session.old.seen.log)
+        < length (pieces_in session.new.seen.log)) }
     ensures rest { inner.new ≡ record inner.old { session = inner.new.session } }
 {
     inner.swap_session(&mut session.seen.downstream);

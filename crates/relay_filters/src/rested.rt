@@ -2,15 +2,18 @@
 //! and the context that hooks are shown: all of it that is held between two turns.
 ghost use Rattle.std.specs.Prelude.{◌≡◌, ◌&&◌, ◌<◌, ◌+◌, ◌^◌, ◌-◌, [], None, Some, IsSome, IfOk, IfErr, drop, false, length, min, is_some, option_map, unwrap_or, true};
 ghost use Rattle.std.specs.List.{list_any};
+ghost use Rattle.relay_tasks.specs.Log.{delays_of};
 ghost use Rattle.relay_tasks.specs.Task.{is_end};
 ghost use Rattle.relay_tasks.specs.declared.error.Fail.TheVariants as fail;
 ghost use Rattle.relay_session.specs.Reading.{head_of, is_body_done};
 ghost use Rattle.relay_core.specs.Past.{Origin, DownPast};
 ghost use Rattle.relay_core.specs.Piece.{put_of, task_put_of};
 ghost use Rattle.relay_core.specs.Told.{failed};
+ghost use Rattle.relay_calls.specs.Log.{IsAllowed};
 ghost use Rattle.relay_sides.specs.Filtered.{is_head_request};
-ghost use Rattle.relay_filters.specs.Delay.{delays_of};
+ghost use Rattle.relay_filters.specs.Delay.{summed};
 ghost use Rattle.relay_filters.specs.Request.{Filters, is_last};
+ghost use Rattle.relay_filters.specs.Response.{SomeAllow};
 ghost use Rattle.relay_filters.specs.Hooked.{HookedPast, InnerPast, PastBy, failure_in_front, is_lost, put_by, refused_at_once, seen_by, state_of_side};
 
 use crate::lent::pass_piece;
@@ -37,7 +40,7 @@ pub struct Rested {
     pub(crate) told: Told,
     // Whether the request is a HEAD, whose response has no body.
     pub(crate) of_head: bool,
-    // How many calls of the log had their delays taken.
+    // How many of the log's delays were taken.
     pub(crate) counted: usize,
     // Whether the request had ended before the first piece.
     pub(crate) at_first: bool,
@@ -74,27 +77,14 @@ fn failure_or(tasks: &TaskList, why: Fail) -> Fail
     }
 }
 
-/// The delay that the call at that place of the log asked for.
-fn delay_at(log: &PhaseLog, at: usize) -> u64
-    requires { at < length log.now }
-    ensures { delays_of (drop at log.now) ≡ result + delays_of (drop (at + 1) log.now) }
+/// The delays from that place on, summed. A sum that does not fit stands at the last value.
+fn sum_from(delays: &[u64], first: usize) -> u64
+    ensures { result ≡ min (summed (drop first delays.now)) (2 ^ 64 - 1) }
 {
-    match log.get(at) {
-        Some(entry) => entry.delay.unwrap_or(0),
-        None => unreachable!(),
-    }
-}
-
-/// The delays that the calls from that place of the log on asked for, summed. A sum that does not
-/// fit stands at the last value.
-fn delays_from(log: &PhaseLog, first: usize) -> u64
-    ensures { result ≡ min (delays_of (drop first log.now)) (2 ^ 64 - 1) }
-{
-    let end = log.len();
     let mut sum = 0_u64;
     let mut at = first;
-    while at < end {
-        sum = sum.saturating_add(delay_at(log, at));
+    while at < delays.len() {
+        sum = sum.saturating_add(delays[at]);
         at += 1;
     }
     sum
@@ -174,17 +164,17 @@ impl Rested {
         ensures stopped { result.stopped ≡ None }
         ensures refused { result.refused ≡ false }
         ensures told { result.told ≡ inner.told }
-        ensures counted { result.counted ≡ length log.now }
+        ensures counted { result.counted ≡ length (delays_of log.now) }
         ensures stood { result.stood ≡ true }
     {
         let told = Down::<F>::told(&inner);
-        Rested::new(inner, told, of_head, log.len(), ended)
+        Rested::new(inner, told, of_head, log.delays().len(), ended)
     }
 
     /// The side of an attempt that puts again what was read of the body, as `begin`, and what
     /// passes of that: `first` is all that was read, as one piece, with the end of a body that has
-    /// ended. It passes the filter of requests by one call, before any piece that is read. What
-    /// passes is put first. An error of the filter stops the side before anything was put.
+    /// ended. It passes the filters of requests, before any piece that is read. What passes is put
+    /// first. An error of one of them stops the side before anything was put.
     ///
     /// What passed is as inside, where that piece was put and nothing was taken yet.
     pub fn begin_again<SV: ProxyHttp, F: Front>(
@@ -214,9 +204,11 @@ impl Rested {
             ≡ is_body_done inner.session.reading) }
         ensures goes_on { IfOk result.1 (λ made. result.0.stopped ≡ None) }
         ensures failed { IfErr result.1 (λ why. result.0.stopped ≡ Some why) }
-        // That call, with that piece, is the only one, and stands behind all that stood in the log;
-        // where memory was wanted it has no entry. Of the inner side hooks change the session alone.
-        ensures filters { Filters (SV.allows app.now) false first result.1
+        // The calls for that piece, the modules' where they stand and the application's, are the
+        // only ones, and stand behind all that stood in the log; one in which memory was wanted has
+        // no entry. Of the inner side hooks change the session alone.
+        ensures filters { Filters (IsAllowed (SV.allows app.now) (SomeAllow SV.Modules.allows))
+            (is_some session.old.modules) false first result.1
             (seen_by session.old.seen inner.session) (SV.mark_of app.now ctx.old)
             (seen_by session.new.seen result.0.inner.session) (SV.mark_of app.now ctx.new) }
         ensures rest { result.0.inner ≡ record inner { session = result.0.inner.session } }
@@ -225,10 +217,10 @@ impl Rested {
         ensures refused { result.0.refused ≡ false }
         ensures told { IfOk result.1 (λ made. result.0.told ≡ inner.told) }
         ensures tells { IfErr result.1 (λ why. result.0.told ≡ failed why inner.told) }
-        ensures counted { result.0.counted ≡ length session.old.seen.log }
+        ensures counted { result.0.counted ≡ length (delays_of session.old.seen.log) }
         ensures stood { result.0.stood ≡ true }
     {
-        let counted = session.phase_log().len();
+        let counted = session.phase_log().delays().len();
         let told = Down::<F>::told(&inner);
         let mut side = Rested::new(inner, told, of_head, counted, false);
         let was = side.shows::<F>();
@@ -303,11 +295,13 @@ impl Rested {
     /// since the side was made: the sum over the calls in that log, which is the session's, and 0
     /// where none asked. A sum that does not fit stands at the last value.
     pub fn take_delay(&mut self, log: &PhaseLog) -> u64
-        ensures sum { result ≡ min (delays_of (drop self.old.counted log.now)) (2 ^ 64 - 1) }
-        ensures counted { self.new ≡ record self.old { counted = length log.now } }
+        ensures sum { result
+            ≡ min (summed (drop self.old.counted (delays_of log.now))) (2 ^ 64 - 1) }
+        ensures counted { self.new ≡ record self.old { counted = length (delays_of log.now) } }
     {
-        let sum = delays_from(log, self.counted);
-        self.counted = log.len();
+        let delays = log.delays();
+        let sum = sum_from(delays, self.counted);
+        self.counted = delays.len();
         sum
     }
 

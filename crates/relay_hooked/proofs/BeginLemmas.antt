@@ -1,17 +1,18 @@
--- How an exchange behind filters begins: what was kept of a body, what passes of it, and the call
+-- How an exchange behind filters begins: what was kept of a body, what passes of it, and the calls
 -- that it passed by.
 --
 --   end_of                what a piece puts has an end exactly where the piece is one
 --   puts_none, has_head   a session of whose body something is put again has a head
---   by_head               whether a request is a HEAD, by the head that its session has
+--   by_request            whether a request is a HEAD, by what its response answers
 --   calls_none, calls_by, cannot_by   what was called: nothing; or the filter of requests, and what
 --                         was kept passed, or did not
---   grown                 the log has grown by that call
+--   grown                 the log has grown by those calls
 --   refused_first, refused_later      the head is refused exactly where it has no framing
-use Rattle.std.proofs.Common.{◌≡◌, ℕ, ◌+◌, Bool, true, false, ◌||◌, ◌&&◌, not, List, [], ◌∷◌, ◌++◌, length, length-append, Option, Some, None, is_some, IsSome, option_to_list, Result, Ok, Err, ◌↔◌, arith, refl, sym, ap, subst, ◌∙◌}
+use Rattle.std.proofs.Common.{◌≡◌, ℕ, ◌+◌, ◌*◌, Bool, true, false, ◌||◌, ◌&&◌, not, List, [], ◌∷◌, ◌++◌, length, length-append, Option, Some, None, is_some, IsSome, option_to_list, Result, Ok, Err, ◌↔◌, arith, refl, sym, ap, subst, ◌∙◌}
 use Rattle.std.specs.Prelude.{if◌then◌else◌}
 use Rattle.std.specs.List.{list_any}
 use Rattle.std.specs.Result.{IsErrOf}
+use Rattle.relay_tasks.specs.declared.error.Error.{Error}
 use Rattle.relay_tasks.specs.declared.error.Fail.{Fail}
 use Rattle.relay_tasks.specs.declared.error.Fail.TheVariants as fail
 use Rattle.relay_tasks.specs.declared.log.LogEntry.{LogEntry}
@@ -20,12 +21,15 @@ use Rattle.relay_tasks.specs.declared.task.HttpTask.TheVariants as task
 use Rattle.relay_tasks.specs.Head.{RequestHead}
 use Rattle.relay_tasks.specs.Task.{is_end}
 use Rattle.relay_h1.specs.Framing.{request_framing}
+use Rattle.relay_session.specs.Asked.{is_head, request_of}
 use Rattle.relay_session.specs.Reading.{head_of, is_body_done, replay_of}
 use Rattle.relay_session.specs.Replay.{retry_buffer}
 use Rattle.relay_session.specs.TaskWire.{bad_framing}
 use Rattle.relay_session.specs.declared.reading.Reading.{Reading}
 use Rattle.relay_session.specs.declared.reading.Reading.TheVariants as reading
 use Rattle.relay_session.specs.declared.session.HttpSession.{HttpSession}
+use Rattle.relay_session.specs.declared.task_text.Asks.TheVariants as asks
+use Rattle.relay_session.specs.declared.task_text.Request.{Request}
 use Rattle.relay_modules.specs.declared.session.Session.{Session}
 use Rattle.relay_core.specs.Piece.{is_empty, put_of, task_put_of}
 use Rattle.relay_core.specs.declared.piece.Piece.{Piece}
@@ -33,8 +37,8 @@ use Rattle.relay_hooks.specs.Standing.{Standing}
 use Rattle.relay_sides.specs.Client.{put_again}
 use Rattle.relay_sides.specs.Filtered.{is_head_request}
 use Rattle.relay_filters.specs.Hooked.{seen_by}
-use Rattle.relay_filters.specs.Request.{Filters, is_last}
-use Rattle.relay_hooked.specs.Begins.{CallsOnce, CannotPut, IsRefusedFor, kept_piece}
+use Rattle.relay_filters.specs.Request.{Filters, PieceChain, is_last}
+use Rattle.relay_hooked.specs.Begins.{CallsOnce, CannotPut, IsRefusedFor, calls_each, kept_piece}
 use Rattle.relay_hooked.specs.declared.exchange.HookedExchange.{HookedExchange}
 use Rattle.relay_hooked.specs.declared.exchange.Unbegun.{Unbegun}
 
@@ -73,13 +77,16 @@ puts_one piece = of (task_put_of false piece)
 -- ---- the head
 
 -- a session whose head asks so, as the client's bytes do, asks as these
-pub by_head : (head : Option RequestHead) (asks : Bool) (method : List ℕ) → IsSome head
-    → ((own : RequestHead) → head ≡ Some own → asks ≡ is_head_request own.method)
-    → ((own : RequestHead) → head ≡ Some own
-    → is_head_request own.method ≡ is_head_request method)
-    → asks ≡ is_head_request method
-by_head None asks method some says heads = absurd (cc)
-by_head (Some own) asks method some says heads = says own refl ∙ heads own refl
+pub by_request : (request : Request) (answers : Bool) (own head : RequestHead)
+    → answers ≡ is_head request.method → request ≡ request_of own → own ≡ head
+    → answers ≡ is_head_request head.method
+by_request request answers own head says of_own same =
+    says ∙ ap (λ (r : Request). is_head r.method)
+    (of_own ∙ ap (λ (h : RequestHead). request_of h) same) ∙ by (is_head_request head.method)
+  where
+    by : (b : Bool) → is_head (if b then asks.Head else asks.Other) ≡ b
+    by true = refl
+    by false = refl
 
 -- ---- what was kept
 
@@ -109,22 +116,74 @@ last_is_end client last = end_of (kept_piece client) ∙ one (is_body_done clien
 
 -- ---- the calls
 
+-- no task, and one
+none_each : (n : ℕ) → n * 0 ≡ 0
+none_each n = omega arith
+
+one_each : (n : ℕ) → n * 1 ≡ n
+one_each n = omega arith
+
+-- an error is one
+no_error : {A : Type 0} (o : Option Error) → IsSome o → o ≡ None → A
+no_error None bad ok = cc
+no_error (Some error) bad ok = absurd (cc)
+
+-- a piece that passed led to so many calls
+calls_of : (stand : Bool) (es : List LogEntry) (call : LogEntry) → PieceChain stand es call
+    → call.error ≡ None → length es ≡ calls_each stand
+calls_of stand es call (PieceChain.by_app none are is piece) ok =
+    ap (λ (l : List LogEntry). length l) are ∙ ap calls_each (sym none)
+calls_of stand es call (PieceChain.by_both there first m e are is was piece becomes) ok =
+    ap (λ (l : List LogEntry). length l)
+    (are ∙ ap (λ (l : List LogEntry). l ++ e ∷ []) m.are) ∙ ap calls_each (sym there)
+calls_of stand es call (PieceChain.by_modules there are is bad piece) ok =
+    no_error call.error bad ok
+
+-- one that did not led to some
+some_calls : (stand : Bool) (es : List LogEntry) (call : LogEntry) → PieceChain stand es call
+    → es ≡ [] → ⊥
+some_calls stand es call (PieceChain.by_app none are is piece) empty =
+    absurd (none_one (sym are ∙ empty))
+  where
+    none_one : call ∷ [] ≡ [] → ⊥
+    none_one is = cc
+some_calls stand es call (PieceChain.by_both there first m e are is was piece becomes) empty =
+    absurd (none_two (sym (ap (λ (l : List LogEntry). l ++ e ∷ []) m.are) ∙ sym are ∙ empty))
+  where
+    none_two : m.call ∷ e ∷ [] ≡ [] → ⊥
+    none_two is = cc
+some_calls stand es call (PieceChain.by_modules there are is bad piece) empty =
+    absurd (none_one (sym are ∙ empty))
+  where
+    none_one : call ∷ [] ≡ [] → ⊥
+    none_one is = cc
+
 module _ {M C : Type 0} (session : Session M) (ctx : C) (client : HttpSession)
     (allows : Standing → LogEntry → Type 0) (mark_of : C → ℕ) (session' : Session M) (ctx' : C)
     (client' : HttpSession)
   where
-    -- the log has grown by as many entries as tasks are put again
+    -- the log has grown by the calls of each task that is put again
     pub grown : CallsOnce session ctx client allows mark_of session' ctx' client'
-        → length session'.seen.log ≡ length session.seen.log + length (put_again client)
+        → length session'.seen.log ≡ length session.seen.log
+        + calls_each (is_some session.modules) * length (put_again client)
     grown (CallsOnce.none empty same) =
-        let log = ap (λ (s : Session M). length s.seen.log) same.session_same in
-        let empty : length (put_again client) ≡ 0 =
-        ap (λ (l : List HttpTask). length l) empty in
-        omega arith
+        let log : length session'.seen.log ≡ length session.seen.log =
+        ap (λ (s : Session M). length s.seen.log) same.session_same in
+        let empty : calls_each (is_some session.modules) * length (put_again client) ≡ 0 =
+        ap (λ (l : List HttpTask). calls_each (is_some session.modules) * length l) empty
+        ∙ none_each (calls_each (is_some session.modules)) in
+        omega (arith, log, empty)
     grown (CallsOnce.once one made f) =
-        let log = ap (λ (l : List LogEntry). length l) f.call.log
-        ∙ length-append session.seen.log _ in
-        omega arith
+        let log : length session'.seen.log ≡ length session.seen.log + length f.came.es =
+        ap (λ (l : List LogEntry). length l) f.came.adds.log
+        ∙ length-append session.seen.log f.came.es in
+        let each = calls_of (is_some session.modules) f.came.es f.came.call f.came.chain
+        f.came.says in
+        let all : calls_each (is_some session.modules) * length (put_again client)
+        ≡ calls_each (is_some session.modules) =
+        ap (λ (n : ℕ). calls_each (is_some session.modules) * n) one
+        ∙ one_each (calls_each (is_some session.modules)) in
+        omega (arith, log, each, all)
 
     -- no hook was called
     pub calls_none : put_again client ≡ [] → session' ≡ session → ctx' ≡ ctx → client' ≡ client
@@ -139,22 +198,22 @@ module _ {M C : Type 0} (session : Session M) (ctx : C) (client : HttpSession)
     module _ (kept : Piece) (is_kept : kept ≡ kept_piece client)
         (puts : is_some (task_put_of false kept) ≡ true) (lent : HttpSession)
         (is_lent : lent ≡ client) (result : Result Piece Fail)
-        (filters : Filters allows false kept result (seen_by session.seen lent) (mark_of ctx)
-        (seen_by session'.seen client') (mark_of ctx'))
+        (filters : Filters allows (is_some session.modules) false kept result
+        (seen_by session.seen lent) (mark_of ctx) (seen_by session'.seen client') (mark_of ctx'))
       where
         -- the call was that of what was kept
         by_kept : (answer : Result Piece Fail) → result ≡ answer
-            → Filters allows false (kept_piece client) answer (seen_by session.seen client)
+            → Filters allows (is_some session.modules) false (kept_piece client) answer (seen_by session.seen client)
             (mark_of ctx) (seen_by session'.seen client') (mark_of ctx')
         by_kept answer answers =
             subst (λ (r : Result Piece Fail).
-            Filters allows false (kept_piece client) r (seen_by session.seen client) (mark_of ctx)
+            Filters allows (is_some session.modules) false (kept_piece client) r (seen_by session.seen client) (mark_of ctx)
             (seen_by session'.seen client') (mark_of ctx')) answers
             (subst (λ (c : HttpSession).
-            Filters allows false (kept_piece client) result (seen_by session.seen c) (mark_of ctx)
+            Filters allows (is_some session.modules) false (kept_piece client) result (seen_by session.seen c) (mark_of ctx)
             (seen_by session'.seen client') (mark_of ctx')) is_lent
             (subst (λ (k : Piece).
-            Filters allows false k result (seen_by session.seen lent) (mark_of ctx)
+            Filters allows (is_some session.modules) false k result (seen_by session.seen lent) (mark_of ctx)
             (seen_by session'.seen client') (mark_of ctx')) is_kept filters))
 
         -- which put one task
@@ -176,10 +235,14 @@ module _ {M C : Type 0} (session : Session M) (ctx : C) (client : HttpSession)
 
 -- ---- what is refused
 
--- no list is itself with one more
-one_more : {A : Type 0} (xs : List A) (x : A) → xs ≡ xs ++ x ∷ [] → ⊥
-one_more {A} xs x is =
-    let longer = ap (λ (l : List A). length l) is ∙ length-append xs (x ∷ []) in omega arith
+-- no list is itself with more
+one_more : {A : Type 0} (xs more : List A) → xs ≡ xs ++ more → more ≡ []
+one_more {A} xs [] is = refl
+one_more {A} xs (x ∷ more) is =
+    let longer : length xs ≡ length xs + length (x ∷ more) =
+    ap (λ (l : List A). length l) is ∙ length-append xs (x ∷ more) in
+    let one : length (x ∷ more) ≡ length more + 1 = omega arith in
+    absurd (omega (arith, longer, one))
 
 -- one that was not begun is that one
 same_unbegun : {L : Type 0} (x other : Unbegun L)
@@ -197,7 +260,8 @@ not_refused session ctx client allows mark_of session' ctx' why client'
     (CannotPut.before memory same) is log = absurd (cc)
 not_refused session ctx client allows mark_of session' ctx' why client'
     (CannotPut.by_filter e failed one f) is log =
-    one_more session.seen.log _ (sym log ∙ f.call.log)
+    some_calls (is_some session.modules) f.came.es f.came.call f.came.chain
+    (one_more session.seen.log f.came.es (sym log ∙ f.came.adds.log))
 not_refused session ctx client allows mark_of session' ctx' why client'
     (CannotPut.in_filter memory one same) is log = absurd (cc)
 

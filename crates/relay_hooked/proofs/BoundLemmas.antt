@@ -27,8 +27,9 @@ use Rattle.relay_calls.specs.Log.{requests_in}
 use Rattle.relay_calls.proofs.LogLemmas.{requests_in-append}
 use Rattle.relay_exchange.specs.Exchange as over
 use Rattle.relay_filters.specs.Hooked.{is_lost}
-use Rattle.relay_filters.specs.Request.{is_end_by, passed, passes}
+use Rattle.relay_filters.specs.Request.{by_pieces, is_end_by, passed, passes, pieces_in}
 use Rattle.relay_filters.proofs.PassedLemmas.{passed_few}
+use Rattle.relay_filters.proofs.PieceLemmas.{pieces_append, pieces_go}
 use Rattle.relay_attempt.specs.Bound.{IsWithin, most_ends, most_tasks}
 use Rattle.relay_attempt.proofs.BoundLemmas.{held_counts, left_at_most, one_at_most, one_left}
 use Rattle.relay_attempt.proofs.WithinLemmas.{pieces_within, tasks_within}
@@ -215,21 +216,21 @@ module _ {L : Type 0} (state : L → LinkState) (start_at : L → LinkStart) whe
       half = half_of state start_at s link ahead log x.down p so_far.down
 
       -- the calls, of which each was given a piece that came
-      calls_within : length (requests_in (calls_behind s.called log)) + 3
+      calls_within : length (pieces_in (calls_behind s.called log)) + 3
           ≤ length s.ahead + length p.came
       calls_within =
           let h = half in
           let within = pieces_within (s.ahead ++ p.came) s.head h.framing h.len h.pieces h.asks
           h.are_pieces h.some in
-          let few : length (requests_in (calls_behind s.called log)) ≤ length h.pieces =
+          let few : length (pieces_in (calls_behind s.called log)) ≤ length h.pieces =
           h.passed.few in
           omega (arith, within, few, length-append s.ahead p.came)
 
       -- the tasks that they put
-      put_few : length p.put ≤ length (requests_in (calls_behind s.called log))
+      put_few : length p.put ≤ length (pieces_in (calls_behind s.called log))
       put_few =
           let first = x.down.at_first in
-          let own = requests_in (calls_behind s.called log) in
+          let own = pieces_in (calls_behind s.called log) in
           let put : length p.put ≡ length (passed first own) =
           ap (λ (l : List HttpTask). length l) half.passed.left in
           omega (arith, put, passed_few first own)
@@ -297,44 +298,52 @@ module _ {L : Type 0} (state : L → LinkState) (start_at : L → LinkStart) whe
       (same_first : new.down.at_first ≡ old.down.at_first)
     where
       -- the calls of the exchange
-      own_goes : requests_in (calls_behind s.called log')
-          ≡ requests_in (calls_behind s.called log) ++ requests_in more
+      own_goes : calls_behind s.called log' ≡ calls_behind s.called log ++ more
       own_goes =
           let was = h.under_way.holds.so_far.down.passed in
-          ap requests_in (behind_more s.called was.own log more log' was.parts goes)
-          ∙ requests_in-append (calls_behind s.called log) more
+          behind_more s.called was.own log more log' was.parts goes
 
-      -- in numbers
-      own_grew : length (requests_in (calls_behind s.called log'))
-          ≡ length (requests_in (calls_behind s.called log)) + length (requests_in more)
-      own_grew = ap (λ (l : List LogEntry). length l) own_goes
-          ∙ length-append (requests_in (calls_behind s.called log)) (requests_in more)
+      -- those of its pieces, in numbers
+      own_grew : length (pieces_in (calls_behind s.called log'))
+          ≡ length (pieces_in (calls_behind s.called log)) + length (pieces_in more)
+      own_grew = ap (λ (l : List LogEntry). length (pieces_in l)) own_goes
+          ∙ pieces_append (calls_behind s.called log) more
+
+      -- those before stay
+      own_stays : (x : List LogEntry)
+          × (pieces_in (calls_behind s.called log') ≡ pieces_in (calls_behind s.called log) ++ x)
+      own_stays =
+          let on = pieces_go (requests_in (calls_behind s.called log)) (requests_in more) in (
+            on.0,
+            ap pieces_in own_goes
+                ∙ ap by_pieces (requests_in-append (calls_behind s.called log) more) ∙ on.1,
+          )
 
       -- each of those that were made puts one task at most
-      put_grew_by : length went.p.put ≤ length h.under_way.down.put + length (requests_in more)
+      put_grew_by : length went.p.put ≤ length h.under_way.down.put + length (pieces_in more)
       put_grew_by =
           let first = old.down.at_first in
-          let own = requests_in (calls_behind s.called log) in
+          let own = pieces_in (calls_behind s.called log) in
           let was : length h.under_way.down.put ≡ length (passed first own) =
           ap (λ (l : List HttpTask). length l)
           (half s h.under_way.down h.under_way.up link ahead log old
           h.under_way.holds.so_far).passed.left in
-          let is : length went.p.put ≡ length (passed first (own ++ requests_in more)) =
+          let x = own_stays.0 in
+          let is : length went.p.put ≡ length (passed first (own ++ x)) =
           ap (λ (l : List HttpTask). length l)
           ((half s went.p went.q link' ahead' log' new went.so_far).passed.left
-          ∙ ap (λ (a : Bool). passed a (requests_in (calls_behind s.called log'))) same_first
-          ∙ ap (λ (es : List LogEntry). passed first es) own_goes) in
-          omega (arith, was, is, passed_more first own (requests_in more))
+          ∙ ap (λ (a : Bool). passed a (pieces_in (calls_behind s.called log'))) same_first
+          ∙ ap (λ (es : List LogEntry). passed first es) own_stays.1) in
+          let count : length (pieces_in (calls_behind s.called log')) ≡ length own + length x =
+          ap (λ (l : List LogEntry). length l) own_stays.1 ∙ length-append own x in
+          omega (arith, was, is, passed_more first own x, count, own_grew)
 
-      -- a turn that called the filter of requests made one more at least
+      -- a turn that passed a piece through its filters made one more at least
       called_more : HasCalled (core_in log old).down (core_in log' new).down
-          → 1 ≤ length (requests_in more)
+          → 1 ≤ length (pieces_in more)
       called_more called =
-          let all : length (requests_in log')
-          ≡ length (requests_in log) + length (requests_in more) =
-          ap (λ (l : List LogEntry). length (requests_in l)) goes
-          ∙ ap (λ (l : List LogEntry). length l) (requests_in-append log more)
-          ∙ length-append (requests_in log) (requests_in more) in
+          let all : length (pieces_in log') ≡ length (pieces_in log) + length (pieces_in more) =
+          ap (λ (l : List LogEntry). length (pieces_in l)) goes ∙ pieces_append log more in
           omega (arith, called, all)
 
       -- what a turn that counts so moved
@@ -343,8 +352,8 @@ module _ {L : Type 0} (state : L → LinkState) (start_at : L → LinkStart) whe
           → Carries (more_tasks + tasks) (calls_behind s.called log') (core_in log' new) went.q
       carried more_tasks more_ends counts =
           let now = carries_on (core_in log old) (core_in log' new) h.under_way.down went.p
-          h.under_way.up went.q tasks (length (requests_in (calls_behind s.called log)))
-          (length (requests_in more)) h.under_way.holds.so_far.requests went.so_far.requests
+          h.under_way.up went.q tasks (length (pieces_in (calls_behind s.called log)))
+          (length (pieces_in more)) h.under_way.holds.so_far.requests went.so_far.requests
           went.extends went.adds put_grew_by called_more h.carries.within more_tasks more_ends
           counts in
           record { within = omega (arith, now, own_grew) }

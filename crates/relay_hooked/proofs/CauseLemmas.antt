@@ -8,8 +8,7 @@ use Rattle.relay_tasks.specs.declared.error.Error.{Error}
 use Rattle.relay_tasks.specs.declared.log.Item.{Item}
 use Rattle.relay_tasks.specs.declared.log.LogEntry.{LogEntry}
 use Rattle.relay_core.specs.Past.{Origin}
-use Rattle.relay_calls.specs.Log.{requests_in}
-use Rattle.relay_filters.specs.Request.{PieceCall, end_in, ended_by, has_piece, is_end_by, is_end_in, is_told_end, passed, takes_away}
+use Rattle.relay_filters.specs.Request.{PieceCall, end_in, ended_by, has_piece, is_end_by, is_end_in, is_told_end, passed, pieces_in, takes_away}
 use Rattle.relay_attempt.specs.Passed.{Passed}
 use Rattle.relay_hooked.specs.Calls.{Filtering}
 use Rattle.relay_hooked.specs.Order.{IsInOrderWith, is_taken, takes}
@@ -98,9 +97,9 @@ end_passed false es all ends = elim (by_calls false es all (sym (passed_ends es)
 -- and so has one of what the filter left
 pub end_caused : (refused : Option Error) (f : Filtering) (s : Origin) (p : Passed) (closed : Bool)
     (order : IsInOrderWith refused f s p closed) → list_any is_end order.pieces ≡ true
-    → (list_any is_end order.came ≡ true) ⊎ (list_any takes (requests_in f.calls) ≡ true)
+    → (list_any is_end order.came ≡ true) ⊎ (list_any takes (pieces_in f.calls) ≡ true)
 end_caused refused f s p closed order ends =
-    elim (end_passed f.at_first (requests_in f.calls) order.passed.each
+    elim (end_passed f.at_first (pieces_in f.calls) order.passed.each
     (sym (ap (list_any is_end) order.passed.left) ∙ ends)) [
       | inl told ↦ inl (order.passed.told told)
       | inr taken ↦ inr taken

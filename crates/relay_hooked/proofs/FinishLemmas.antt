@@ -49,8 +49,7 @@ use Rattle.relay_hooked.specs.Laws.{GoesSoFar, passed_by}
 use Rattle.relay_hooked.specs.Order.{EndsEarly, IsInOrder, IsRelayed, Keeps, Leaves, MayServe, SendsShort, SendsWhole}
 use Rattle.relay_hooked.specs.Order as order
 use Rattle.relay_attempt.proofs.ServeLemmas.{all_keep, ended_stands, kept_reading, kept_writing}
-use Rattle.relay_calls.specs.Log.{requests_in}
-use Rattle.relay_filters.specs.Request.{ended_by, passed}
+use Rattle.relay_filters.specs.Request.{ended_by, passed, pieces_in}
 use Rattle.relay_core.specs.Table as core
 use Rattle.relay_core.specs.declared.step.UpKind.{UpKind}
 use Rattle.relay_links.specs.Count.{Rose}
@@ -420,10 +419,10 @@ module _ {L : Type 0} (state : L → LinkState) (start_at : L → LinkStart)
     ends_put fresh ended =
         let r = so_far.down.passed.request refl in
         ap (list_any is_end)
-        (r.left ∙ ap (λ (a : Bool). passed a (requests_in so_far.down.passed.own)) fresh)
-        ∙ passed_ends (requests_in so_far.down.passed.own)
+        (r.left ∙ ap (λ (a : Bool). passed a (pieces_in so_far.down.passed.own)) fresh)
+        ∙ passed_ends (pieces_in so_far.down.passed.own)
         ∙ sym (r.is_ended
-        ∙ ap (λ (a : Bool). ended_by a (requests_in so_far.down.passed.own)) fresh)
+        ∙ ap (λ (a : Bool). ended_by a (pieces_in so_far.down.passed.own)) fresh)
         ∙ ended
 
     -- a link that may serve another request is kept

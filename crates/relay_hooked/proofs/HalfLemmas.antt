@@ -29,7 +29,7 @@ use Rattle.relay_calls.specs.Log.{requests_in}
 use Rattle.relay_sides.specs.Filtered.{is_head_request}
 use Rattle.relay_filters.specs.Hooked.{TakesOn, inside}
 use Rattle.relay_filters.specs.Request as request
-use Rattle.relay_filters.specs.Request.{PassesRequest}
+use Rattle.relay_filters.specs.Request.{InChains, PassesRequest, pieces_in}
 use Rattle.relay_filters.specs.Response.{MakesOf}
 use Rattle.relay_attempt.specs.Exchange.{DownHolds}
 use Rattle.relay_attempt.proofs.OrderLemmas.{answers_own, front_own, own_request, pieces_said}
@@ -38,6 +38,7 @@ use Rattle.relay_hooked.specs.Attempt.{HookedHalf, PeerHalf}
 use Rattle.relay_hooked.specs.Calls.{calls_behind}
 use Rattle.relay_hooked.specs.Order.{AreSaid}
 use Rattle.relay_hooked.specs.Sides.{Behind, HookedHolds, PeerHolds, PeerSideBlames, filtering}
+use Rattle.relay_hooked.proofs.KindLemmas.{calls_filters}
 
 -- ---- the body that came
 
@@ -84,6 +85,8 @@ module _
         let c = h.passed.holds.passed.client in
         let d = holds.passed.client in
         record {
+          are_filters =
+              calls_filters b.of_head b.stopped (calls_behind s.called b.log) h.calls;
           came = c.came;
           written = c.written;
           faults = c.faults;
@@ -96,9 +99,12 @@ module _
               pieces_said s (inside p h.passed.came h.passed.queued) link ahead session c
               (h.passed.request refl).ends_last;
           some = c.some;
+          chains =
+              subst (λ (es : List LogEntry). InChains (requests_in es) (b.stopped ≡ None))
+              (own_calls s.called h.passed.own b.log h.passed.parts) h.passed.chains;
           passed =
               subst (λ (es : List LogEntry).
-              PassesRequest b.at_first b.ended (requests_in es) (b.stopped ≡ None) h.passed.came
+              PassesRequest b.at_first b.ended (pieces_in es) (b.stopped ≡ None) h.passed.came
               p.put)
               (own_calls s.called h.passed.own b.log h.passed.parts) (h.passed.request refl);
           queued = queued;

@@ -1,3 +1,4 @@
+pub mod KindLemmas
 pub mod ChainLemmas
 pub mod PlaceLemmas
 pub mod HalfLemmas

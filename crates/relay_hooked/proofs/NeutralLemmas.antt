@@ -3,6 +3,8 @@
 --   alike_head    two heads that ask alike are both of a HEAD, or none is
 --   passed_none   nothing passes once the request has ended
 --   call_bytes    what a call passes brings the bytes that it was given
+--   pieces_neutral   the calls of each piece, as one, leave it where each of them leaves what it was
+--                 given
 --   as_without    from IsInOrder and ChangesNothing: IsInOrder of relay_attempt
 use Rattle.std.proofs.Common.{◌≡◌, ℕ, Bool, true, false, not, ◌==◌, List, [], ◌∷◌, ◌++◌, length, map, refl, sym, ap, subst, ◌∙◌, append_assoc, append-nil, arith, Option, Some, None, if◌then◌else◌}
 use Rattle.std.specs.Prelude.{◌||◌, ◌&&◌, is_some, option_to_list, unwrap_or}
@@ -24,7 +26,7 @@ use Rattle.relay_core.specs.Piece.{is_empty}
 use Rattle.relay_calls.specs.Log.{requests_in}
 use Rattle.relay_sides.specs.Filtered.{handed, is_head_request}
 use Rattle.relay_sides.proofs.ClientPast.{body_of-append}
-use Rattle.relay_filters.specs.Request.{bytes_in, given_to, has_piece, is_end_by, passed, passes, put_in_item}
+use Rattle.relay_filters.specs.Request.{AreChains, InChains, PieceChain, bytes_in, given_to, has_piece, is_end_by, passed, passes, pieces_in, put_in_item}
 use Rattle.relay_attempt.specs.Order as without
 use Rattle.relay_attempt.specs.Passed.{Passed}
 use Rattle.relay_hooked.specs.Calls.{Filtering}
@@ -113,6 +115,47 @@ passed_front false (e ∷ es) n =
           ∙ ap (λ (l : List ℕ). bytes_in e.input ++ l) more.joined;
     }
 
+-- ---- the calls of a piece
+
+-- neutral calls, of two lists
+neutral_first : (es fs : List LogEntry) → AreNeutral (es ++ fs) → AreNeutral es
+neutral_first [] fs n = tt
+neutral_first (e ∷ es) fs n = (n.0, neutral_first es fs n.1)
+
+neutral_last : (es fs : List LogEntry) → AreNeutral (es ++ fs) → AreNeutral fs
+neutral_last [] fs n = n
+neutral_last (e ∷ es) fs n = neutral_last es fs n.1
+
+-- what the calls of a piece came to left it, where each of them left what it was given
+chain_neutral : (stand : Bool) (es : List LogEntry) (call : LogEntry) → PieceChain stand es call
+    → AreNeutral es → LeavesIt call
+chain_neutral stand es call (PieceChain.by_app none are is piece) n =
+    (subst AreNeutral are n).0
+chain_neutral stand es call (PieceChain.by_both there first m e are is was piece becomes) n =
+    let both = subst AreNeutral (are ∙ ap (λ (l : List LogEntry). l ++ e ∷ []) m.are) n in
+    subst LeavesIt (sym becomes) (record {
+      ok = both.1.0.ok;
+      same = both.1.0.same ∙ was ∙ both.0.same;
+    })
+chain_neutral stand es call (PieceChain.by_modules there are is bad piece) n =
+    (subst AreNeutral are n).0
+
+chains_neutral : (es calls : List LogEntry) → AreChains es calls → AreNeutral es
+    → AreNeutral calls
+chains_neutral es [] none n = tt
+chains_neutral es (call ∷ calls) (stand, own, rest, are, chain, chains) n =
+    let both = subst AreNeutral are n in (
+      chain_neutral stand own call chain (neutral_first own rest both),
+      chains_neutral rest calls chains (neutral_last own rest both),
+    )
+
+-- so it is with all pieces of a request
+pub pieces_neutral : (calls : List LogEntry) (on : Type 0) → InChains (requests_in calls) on
+    → AreNeutral calls → AreNeutral (pieces_in calls)
+pieces_neutral calls on c n =
+    chains_neutral c.done (pieces_in calls) c.chains
+    (neutral_first c.done c.lost (subst AreNeutral c.are (part_neutral _ calls n)))
+
 -- ---- the order
 
 module _
@@ -132,10 +175,11 @@ module _
     -- the pieces are the front of the body that came
     pieces_front : IsFrontOf (body_of order.pieces) (body_of order.came)
     pieces_front =
-        let es = requests_in f.calls in
+        let es = pieces_in f.calls in
         front_then (body_of order.pieces) (given_to es) (body_of order.came)
         (subst (λ (l : List HttpTask). IsFrontOf (body_of l) (given_to es))
-        (sym order.passed.left) (passed_front f.at_first es (part_neutral _ f.calls n.calls)))
+        (sym order.passed.left) (passed_front f.at_first es
+        (pieces_neutral f.calls (f.stopped ≡ None) order.chains n.calls)))
         (record {
           rest = order.passed.rest;
           joined = sym order.passed.read ∙ body_same order.came;

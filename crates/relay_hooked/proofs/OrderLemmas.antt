@@ -75,6 +75,7 @@ module _
         → first_refusal (request_of s.head) place.NoHead (a.is_down.queued ++ a.p.closing) ≡ refused
         → IsInOrderWith refused f s (passed_by a.p a.q) link.ended
     order_of refused passes = record {
+      are_filters = a.is_down.are_filters;
       asks = record {
         framing = a.is_down.framing;
         len = a.is_down.len;
@@ -84,6 +85,7 @@ module _
       are_came = a.is_down.are_pieces;
       ended = ended;
       pieces = a.p.put;
+      chains = a.is_down.chains;
       passed = a.is_down.passed;
       ends_last = a.ends_last plain;
       taken = a.q.taken;

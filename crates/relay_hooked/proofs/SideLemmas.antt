@@ -27,9 +27,9 @@ use Rattle.relay_core.specs.Past.{Origin, DownPast, UpPast}
 use Rattle.relay_core.specs.Table.{core}
 use Rattle.relay_core.specs.declared.duplex.Duplex.{Duplex}
 use Rattle.relay_core.specs.declared.told.Told.{Told}
-use Rattle.relay_calls.specs.Log.{requests_in}
 use Rattle.relay_sides.specs.Client.{AllPass, CannotEnd, ClientBlames, ClientRefuses}
 use Rattle.relay_filters.specs.Hooked.{BlamesOver, HookedPast, PastBy, PastOf, RefusesOver, is_lost, shown_done, state_of_side}
+use Rattle.relay_filters.specs.Request.{pieces_in}
 use Rattle.relay_filters.specs.declared.rested.Rested.{Rested}
 use Rattle.relay_attempt.specs.Attempt.{IsAttempt}
 use Rattle.relay_attempt.specs.Exchange.{AreTold, DownHolds}
@@ -64,6 +64,7 @@ over_other inner other method client before called log of_head at_first ended up
         holds = holds;
         own = h.passed.own;
         parts = h.passed.parts;
+        chains = h.passed.chains;
         request = h.passed.request;
         is_of_head = h.passed.is_of_head;
         response = h.passed.response;
@@ -205,7 +206,7 @@ module _ {L : Type 0} (state : L → LinkState) (start_at : L → LinkStart) (s 
           body_done = shown_done u.stopped u.was.body_done (state_of_side u.inner).body_done;
           pending = if lost then u.was.pending else (state_of_side u.inner).pending;
           told = u.told;
-          calls = length (requests_in log);
+          calls = length (pieces_in log);
         }
 
         -- where no hook wanted memory it holds what the laws speak of

@@ -1,7 +1,9 @@
 -- The calls of pieces and batches come in order while messages are relayed.
 --
+--   from_piece      the modules filtered a piece
+--   piece_stays, piece_fails   the calls of one that passed, and of one that was refused
 --   come_in_order   from InSegments: Leads
-use Rattle.std.proofs.Common.{◌≡◌, ℕ, All, Bool, true, false, ◌⊎◌, List, [], ◌∷◌, ◌++◌, Option, Some, None, refl, sym, ap, subst, ◌∙◌, append_assoc, inl, inr}
+use Rattle.std.proofs.Common.{◌≡◌, ℕ, All, Bool, true, false, ◌⊎◌, List, [], ◌∷◌, ◌++◌, Option, Some, None, refl, sym, ap, subst, ◌∙◌, append_assoc, inl, inr, IsSome}
 use Rattle.std.proofs.lemmas.List.Elements.{All-head, All-tail}
 use Rattle.relay_tasks.specs.Head.{Fields, ResponseHead}
 use Rattle.relay_tasks.specs.declared.error.Error.{Error}
@@ -18,6 +20,7 @@ use Rattle.relay_phases.specs.Order.{Station as station}
 use Rattle.relay_phases.proofs.OrderLemmas.{Accepts-append}
 use Rattle.relay_filters.specs.Chain.{AllPass, BodyFeeds, Called, FrontPasses, Gave, HeadFeeds, ModuleChain, ModuleFeeds, OneCall, OneFeeds, PassesBy, PassesModules, Refuses, TaskChain, TaskFeeds, TrailerFeeds, checked}
 use Rattle.relay_filters.specs.Chain as chains
+use Rattle.relay_filters.specs.Request.{LetsOn, PieceChain}
 use Rattle.relay_filters.specs.Response.{BatchPasses, BatchStops}
 use Rattle.relay_filters.specs.Response as batches
 use Rattle.relay_filters.specs.Segments.{InSegments, LastCalls, RefusedIn, Segment, joined}
@@ -57,7 +60,7 @@ two from mid to u r first second =
 -- ---- what passes
 
 -- the calls lead on to a station at which messages are relayed
-abbrev Stays : Station → List LogEntry → Type 0
+abbrev pub Stays : Station → List LogEntry → Type 0
 Stays from es = (to : Station) × Accepts from es to × Relays to
 
 -- no call leads on
@@ -183,13 +186,44 @@ module _ (chain : HttpTask → List LogEntry → HttpTask → Type 0)
       let first = so x own y c from relays in
       stays_on from own rest es is first (all_stay rest xs ys pass first.0 first.2)
 
+-- the modules filtered a piece
+pub from_piece : (at : Station) (es : List LogEntry) (m : LetsOn es) → Relays at
+    → next at m.call ≡ Some station.at_piece
+from_piece at es m relays =
+    while_relayed hook.ModuleRequestBody None station.at_piece at m.call relays m.is_hook m.ok
+    (λ x. refl) (λ x. refl) (λ x. refl)
+
+-- both calls of one
+two_are : (es first : List LogEntry) (m e : LogEntry) → first ≡ m ∷ [] → es ≡ first ++ e ∷ []
+    → es ≡ m ∷ e ∷ []
+two_are es first m e is are = are ∙ ap (λ (l : List LogEntry). l ++ e ∷ []) is
+
+-- an error is one
+no_error : {A : Type 0} (o : Option Error) → IsSome o → o ≡ None → A
+no_error None bad ok = cc
+no_error (Some error) bad ok = absurd (cc)
+
+-- so do the calls of a piece
+pub piece_stays : (stand : Bool) (es : List LogEntry) (call : LogEntry) → PieceChain stand es call
+    → call.error ≡ None → (from : Station) → Relays from → Stays from es
+piece_stays stand es call (PieceChain.by_app none are is piece) ok from relays =
+    one_stays from es call are
+    (while_relayed hook.RequestBodyFilter None station.relaying from call relays is ok (λ x. refl)
+    (λ x. refl) (λ x. refl))
+piece_stays stand es call (PieceChain.by_both there first m e are is was piece becomes) ok from
+    relays =
+    both_stay from station.at_piece es m.call e (two_are es first m.call e m.are are)
+    (from_piece from first m relays)
+    (go station.at_piece station.at_piece hook.RequestBodyFilter None e (Some station.relaying) refl
+    is (sym (ap (λ (x : LogEntry). x.error) becomes) ∙ ok) refl)
+piece_stays stand es call (PieceChain.by_modules there are is bad piece) ok from relays =
+    no_error call.error bad ok
+
 -- and all calls of a piece or a batch
 segment_stays : (oh : Bool) (es : List LogEntry) → Segment oh es → (from : Station) → Relays from
     → Stays from es
-segment_stays oh es (segments.Segment.of_piece e is call ok) from relays =
-    one_stays from es e is
-    (while_relayed hook.RequestBodyFilter None station.relaying from e relays call.is_hook ok
-    (λ x. refl) (λ x. refl) (λ x. refl))
+segment_stays oh es (segments.Segment.of_piece stand call chain ok) from relays =
+    piece_stays stand es call chain ok from relays
 segment_stays oh es (segments.Segment.of_batch stand tasks made b) from relays =
     let first = all_stay (TaskChain oh) (task_stays oh) b.by_app tasks b.mid b.pass from relays in
     stays_on from b.by_app b.by_modules es b.calls first
@@ -455,16 +489,31 @@ never_between oh e es
 
 -- ---- the calls of a side
 
+-- those of a piece that was refused lead to where the attempt has failed
+pub piece_fails : (stand : Bool) (es : List LogEntry) (call : LogEntry) (error : Error)
+    → PieceChain stand es call → call.error ≡ Some error → (from : Station) → Relays from
+    → Accepts from es station.broken
+piece_fails stand es call error (PieceChain.by_app none are is piece) failed from relays =
+    subst (λ (l : List LogEntry). Accepts from l station.broken) (sym are)
+    (while_relayed hook.RequestBodyFilter (Some error) station.broken from call relays is failed
+    (λ x. refl) (λ x. refl) (λ x. refl))
+piece_fails stand es call error (PieceChain.by_both there first m e are is was piece becomes)
+    failed from relays =
+    subst (λ (l : List LogEntry). Accepts from l station.broken)
+    (sym (two_are es first m.call e m.are are))
+    (two from station.at_piece station.broken m.call e (from_piece from first m relays)
+    (go station.at_piece station.at_piece hook.RequestBodyFilter (Some error) e
+    (Some station.broken) refl is (sym (ap (λ (x : LogEntry). x.error) becomes) ∙ failed) refl))
+piece_fails stand es call error (PieceChain.by_modules there are is bad piece) failed from relays =
+    subst (λ (l : List LogEntry). Accepts from l station.broken) (sym are)
+    (while_relayed hook.ModuleRequestBody (Some error) station.broken from call relays is failed
+    (λ x. refl) (λ x. refl) (λ x. refl))
+
 -- those of what was refused lead to where the error may be told
 refused_comes : (oh : Bool) (error : Error) (es : List LogEntry) → RefusedIn oh error es
     → (from : Station) → Relays from → (to : Station) × Accepts from es to × MayFail to
-refused_comes oh error es (segments.RefusedIn.of_piece e is call failed) from relays =
-    subst (λ (l : List LogEntry). (to : Station) × Accepts from l to × MayFail to) (sym is) (
-      station.broken,
-      while_relayed hook.RequestBodyFilter (Some error) station.broken from e relays call.is_hook
-          failed (λ x. refl) (λ x. refl) (λ x. refl),
-      inl refl,
-    )
+refused_comes oh error es (segments.RefusedIn.of_piece stand call chain failed) from relays =
+    (station.broken, piece_fails stand es call error chain failed from relays, inl refl)
 refused_comes oh error es (segments.RefusedIn.of_batch stand tasks stops refuses) from relays =
     let there = batch_comes oh stand tasks es stops from relays in
     elim there.2 [
@@ -477,7 +526,10 @@ lost_comes : (oh : Bool) (es : List LogEntry) → LastCalls oh (Some fail.OutOfM
     → (from : Station) → Relays from → (to : Station) × Accepts from es to
 lost_comes oh es (inl none) from relays =
     subst (λ (l : List LogEntry). (to : Station) × Accepts from l to) (sym none) (from, refl)
-lost_comes oh es (inr stops) from relays =
+lost_comes oh es (inr (inl m)) from relays =
+    subst (λ (l : List LogEntry). (to : Station) × Accepts from l to) (sym m.are)
+    (station.at_piece, from_piece from es m relays)
+lost_comes oh es (inr (inr stops)) from relays =
     let there = batch_comes oh stops.stand stops.tasks es stops.stops from relays in
     (there.0, there.1)
 

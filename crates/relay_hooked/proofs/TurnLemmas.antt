@@ -4,11 +4,13 @@
 --   stays_first    what no call changes
 --   from_settled   an answer that is no failure is the duplex's
 --   asks_settled   how a turn asked both links, by its answer
+--   unstopped      a side that goes on
 --   under_way      an exchange that is under way between both sides is, over all that passed
 --   turned         what a turn between both sides is, over all that passed
-use Rattle.std.proofs.Common.{◌≡◌, ℕ, Bool, true, false, ◌⊎◌, List, Some, inl, inr, refl, sym, ap, subst, ◌∙◌}
+use Rattle.std.proofs.Common.{◌≡◌, ℕ, Bool, true, false, ◌⊎◌, List, Option, None, Some, inl, inr, refl, sym, ap, subst, ◌∙◌}
 use Rattle.std.specs.Prelude.{◌&&◌}
 use Rattle.relay_tasks.specs.declared.error.Error.{Error}
+use Rattle.relay_tasks.specs.declared.error.Fail.{Fail}
 use Rattle.relay_tasks.specs.declared.error.Fail.TheVariants as fail
 use Rattle.relay_tasks.specs.declared.log.LogEntry.{LogEntry}
 use Rattle.relay_tasks.specs.declared.took.Pause.TheVariants as pause
@@ -27,6 +29,7 @@ use Rattle.relay_exchange.specs.Exchange.{may_keep_at}
 use Rattle.relay_exchange.specs.Exchange as over
 use Rattle.relay_exchange.specs.declared.exchange.Stage.{Stage}
 use Rattle.relay_exchange.specs.declared.exchange.Stage.TheVariants as stage
+use Rattle.relay_sides.specs.Filtered.{stops_for_error}
 use Rattle.relay_filters.specs.Hooked.{Stays, inside, is_lost}
 use Rattle.relay_attempt.proofs.OrderLemmas.{answers_own}
 use Rattle.relay_hooked.specs.Exchange.{ComesTo, IsBetween, IsFinished, IsOverEarly, IsUnderWay, SideBlames, SideCannotEnd, SideRefuses, Turns, TurnsBetween}
@@ -83,6 +86,13 @@ asks_settled result answer client client' upstream upstream' (inl same) asks =
 asks_settled result answer client client' upstream upstream' (inr lost) asks =
     subst (λ (r : Step). Asks r client client' upstream upstream') (sym lost)
     (asked_before answer client client' upstream upstream' asks)
+
+-- a side that no filter stopped, and that is not lost, goes on
+pub unstopped : (stopped : Option Fail) → is_lost stopped ≡ false
+    → stops_for_error stopped ≡ false → stopped ≡ None
+unstopped None alive still = refl
+unstopped (Some fail.OutOfMemory) alive still = cc
+unstopped (Some (fail.Error error)) alive still = cc
 
 -- ---- a turn
 
@@ -164,6 +174,7 @@ module _ {L : Type 0} (state : L → LinkState) (start_at : L → LinkStart) (s 
             let passed = passed_by went.p went.q in
             let answers = answers_own s (inside went.p g.down.passed.came g.down.passed.queued) link
             ahead session g.down.passed.holds.passed.client in
+            let goes_on = unstopped side.stopped alive (went.so_far.down.quiet.none quiet).1 in
             elim (finishes_so state start_at link ahead s b x.exchange.up x.exchange.duplex
             went.p went.q g
             (untold_passes state start_at link ahead s b x.exchange.up x.exchange.duplex
@@ -173,6 +184,7 @@ module _ {L : Type 0} (state : L → LinkState) (start_at : L → LinkStart) (s 
               | inl r ↦ inl (record {
                 relayed = r.0;
                 answers = answers;
+                goes_on = goes_on;
                 leaves =
                     subst (λ (keeps : Bool).
                     Leaves (filtering s b) s passed link_state start r.0.order ahead session keeps)
@@ -184,6 +196,7 @@ module _ {L : Type 0} (state : L → LinkState) (start_at : L → LinkStart) (s 
               | inr r ↦ inr (record {
                 early = r.0;
                 answers = answers;
+                goes_on = goes_on;
                 leaves =
                     subst (λ (keeps : Bool).
                     Leaves (filtering s b) s passed link_state start r.0.order ahead session keeps)
@@ -253,4 +266,5 @@ module _ {L : Type 0} (state : L → LinkState) (start_at : L → LinkStart) (s 
                 (sym (alive kept)) (comes kept answer bodies went.comes_to tells)
           ];
           calls = went.so_far.down.calls;
+          lost = lost;
         }

@@ -1,6 +1,6 @@
 -- The halves of an attempt behind filters: one over the client, whose pieces and tasks pass the
 -- filters of an application, and one over the upstream's own side.
-use Rattle.std.specs.Prelude.{◌≡◌, ℕ, Bool, true, false, ◌≤◌, List, [], ◌++◌, drop, Some, None}
+use Rattle.std.specs.Prelude.{◌≡◌, All, ℕ, Bool, true, false, ◌≤◌, List, [], ◌++◌, drop, Some, None}
 use Rattle.std.specs.List.{list_any}
 use Rattle.relay_tasks.specs.declared.task.HttpTask.{HttpTask}
 use Rattle.relay_tasks.specs.Head.{ResponseHead}
@@ -23,21 +23,23 @@ use Rattle.relay_calls.specs.Log.{requests_in}
 use Rattle.relay_sides.specs.Client.{HaveSome}
 use Rattle.relay_sides.specs.Filtered.{is_head_request}
 use Rattle.relay_filters.specs.Hooked.{TakesOn}
-use Rattle.relay_filters.specs.Request.{PassesRequest}
+use Rattle.relay_filters.specs.Request.{InChains, PassesRequest, pieces_in}
 use Rattle.relay_filters.specs.Response.{MakesOf}
 use Rattle.relay_attempt.specs.Order.{ArePieces}
-use Rattle.relay_hooked.specs.Calls.{Filtering}
+use Rattle.relay_hooked.specs.Calls.{Filtering, IsFilter}
 use Rattle.relay_hooked.specs.Order.{AreSaid}
 
 -- the client's half, over a link with sessions of HTTP/1: its bytes begin with the head of the
 -- request, and its pieces, as they came, are the front of the body behind it, each with some of it
--- or its end. What was put is what the filter of requests left of them by these calls, and what
--- was queued is what the filters of responses made of the tasks that were given; what was written
--- is the front of the text of what was queued and of the ends that were asked for, no failure among
--- them. A response that is done is over
+-- or its end. What was put is what the filters of requests left of them by these calls, those of
+-- each piece as one, and what was queued is what the filters of responses made of the tasks that
+-- were given; what was written is the front of the text of what was queued and of the ends that
+-- were asked for, no failure among them. A response that is done is over. Each of the calls is a
+-- filter's
 pub record HookedHalf
     (f : Filtering) (o : Origin) (client : LinkState) (ended done : Bool) (p : DownPast)
     : Type 0 where
+  pub are_filters : All IsFilter f.calls
   pub came : Since [] o.given client.given p.came
   pub written : Since [] o.taken client.taken p.written
   pub faults : o.faults ≤ client.faults
@@ -48,7 +50,8 @@ pub record HookedHalf
   pub pieces : List HttpTask
   pub are_pieces : ArePieces framing (drop len (o.ahead ++ p.came)) pieces
   pub some : HaveSome pieces
-  pub passed : PassesRequest f.at_first ended (requests_in f.calls) (f.stopped ≡ None) pieces p.put
+  pub chains : InChains (requests_in f.calls) (f.stopped ≡ None)
+  pub passed : PassesRequest f.at_first ended (pieces_in f.calls) (f.stopped ≡ None) pieces p.put
   pub queued : List HttpTask
   pub makes : MakesOf (is_head_request o.head.method) f.stood f.calls
       (TakesOn f.stopped f.refused) p.batched queued

@@ -1,6 +1,6 @@
--- How an exchange behind filters begins: what was kept of the client's body passes the filter of
--- requests, by one call, and what passes of it is put before more is read.
-use Rattle.std.specs.Prelude.{◌≡◌, ◌⊎◌, ℕ, true, false, List, [], length, None, Result, Err}
+-- How an exchange behind filters begins: what was kept of the client's body passes the filters of
+-- requests as one piece, and what passes of it is put before more is read.
+use Rattle.std.specs.Prelude.{◌≡◌, ◌⊎◌, ℕ, Bool, true, false, is_some, List, [], length, None, Result, Err}
 use Rattle.std.specs.List.{list_any}
 use Rattle.relay_tasks.specs.declared.error.Error.{Error}
 use Rattle.relay_tasks.specs.declared.error.Fail.{Fail}
@@ -19,7 +19,7 @@ use Rattle.relay_core.specs.declared.piece.Piece.{Piece}
 use Rattle.relay_hooks.specs.Standing.{Standing}
 use Rattle.relay_sides.specs.Client.{put_again}
 use Rattle.relay_filters.specs.Hooked.{seen_by}
-use Rattle.relay_filters.specs.Request.{Filtered, Refused}
+use Rattle.relay_filters.specs.Request.{Filtered, IsLost, Refused, is_last}
 use Rattle.relay_filters.specs.declared.rested.Rested.{Rested}
 use Rattle.relay_hooked.specs.declared.exchange.HookedExchange.{HookedExchange}
 use Rattle.relay_hooked.specs.declared.exchange.Unbegun.{Unbegun}
@@ -43,6 +43,11 @@ pub record IsBegun (client : HttpSession) (u : Rested) (piece : Piece) : Type 0 
   pub untold : u.told.errors ≡ 0
   pub at_first : u.at_first ≡ false
 
+-- how many calls a piece that passes leads to: one more where modules stand
+abbrev pub calls_each : Bool → ℕ
+calls_each true = 2
+calls_each false = 1
+
 -- by the session, the context and the client's session that an exchange is given
 module _ {M C : Type 0} (session : Session M) (ctx : C) (client : HttpSession) where
   -- no hook was called: these are the same
@@ -52,30 +57,31 @@ module _ {M C : Type 0} (session : Session M) (ctx : C) (client : HttpSession) w
     pub client_same : client' ≡ client
 
   module _ (allows : Standing → LogEntry → Type 0) (mark_of : C → ℕ) where
-    -- what the beginning called, up to these: no hook, where nothing is put again; or the filter of
-    -- requests, once, which was given what is put again and let that pass
+    -- what the beginning called, up to these: no hook, where nothing is put again; or the filters of
+    -- requests, the modules' where they stand, which were given what is put again and let that pass
     pub data CallsOnce (session' : Session M) (ctx' : C) (client' : HttpSession) : Type 0 where
       none : put_again client ≡ [] → AreSame session' ctx' client'
           → CallsOnce session' ctx' client'
       once : length (put_again client) ≡ 1 → (made : Piece)
-          → Filtered allows false (kept_piece client) made (seen_by session.seen client)
-          (mark_of ctx) (seen_by session'.seen client') (mark_of ctx')
-          → CallsOnce session' ctx' client'
+          → Filtered allows (is_some session.modules) false (kept_piece client) made
+          (seen_by session.seen client) (mark_of ctx) (seen_by session'.seen client')
+          (mark_of ctx') → CallsOnce session' ctx' client'
 
     -- why nothing could be put first, and what that left: memory was wanted before any call; or the
-    -- filter of requests was called with what is put again, and its call, the only one, stands in
-    -- the log with its error; or memory was wanted in it, and no call stands there
+    -- filters of requests were called with what is put again, and their calls, the only ones, stand
+    -- in the log, the last with its error; or memory was wanted in one, which has no entry
     pub data CannotPut (why : Fail) (session' : Session M) (ctx' : C) (client' : HttpSession)
         : Type 0 where
       before : why ≡ fail.OutOfMemory → AreSame session' ctx' client'
           → CannotPut why session' ctx' client'
       by_filter : (e : Error) → why ≡ fail.Error e → length (put_again client) ≡ 1
-          → Refused allows e (kept_piece client) (seen_by session.seen client) (mark_of ctx)
-          (seen_by session'.seen client') (mark_of ctx')
-          → CannotPut why session' ctx' client'
+          → Refused allows (is_some session.modules) e (kept_piece client)
+          (seen_by session.seen client) (mark_of ctx) (seen_by session'.seen client')
+          (mark_of ctx') → CannotPut why session' ctx' client'
       in_filter : why ≡ fail.OutOfMemory → length (put_again client) ≡ 1
-          → session'.seen.log ≡ session.seen.log
-          → CannotPut why session' ctx' client'
+          → IsLost allows (is_some session.modules) (kept_piece client).bytes
+          (is_last (kept_piece client)) (seen_by session.seen client) (mark_of ctx)
+          (seen_by session'.seen client') → CannotPut why session' ctx' client'
 
     -- why an exchange was not begun, what came back, and up to what hooks were called: the head has
     -- no framing, and no hook was called; or nothing could be put first

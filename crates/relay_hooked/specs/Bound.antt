@@ -8,7 +8,7 @@ use Rattle.relay_core.specs.Past.{Origin, UpPast}
 use Rattle.relay_core.specs.Table.{State}
 use Rattle.relay_core.specs.declared.step.Step.{Step}
 use Rattle.relay_core.specs.declared.step.Step.TheVariants as step
-use Rattle.relay_calls.specs.Log.{requests_in}
+use Rattle.relay_filters.specs.Request.{pieces_in}
 use Rattle.relay_attempt.specs.Bound.{IsWithin, most_ends}
 use Rattle.relay_attempt.specs.Passed.{Passed}
 use Rattle.relay_hooked.specs.Calls.{calls_behind}
@@ -16,15 +16,15 @@ use Rattle.relay_hooked.specs.Exchange.{IsUnderWay}
 use Rattle.relay_hooked.specs.Head.{core_in, link_of}
 use Rattle.relay_hooked.specs.declared.exchange.HookedExchange.{HookedExchange}
 
--- how much was moved so far, by the calls of the exchange: each call of the filter of requests puts
+-- how much was moved so far, by the calls of the exchange: each piece whose filters were called puts
 -- one task at most, which is taken once; and each task of the response goes once in and once out,
 -- but for those that are held
 pub record Carries (moved : ℕ) (calls : List LogEntry) (s : State) (q : UpPast) : Type 0 where
   pub within : moved + length s.duplex.responses.tasks
-      ≤ length (requests_in calls) + length q.taken + (read_count s q + read_count s q)
+      ≤ length (pieces_in calls) + length q.taken + (read_count s q + read_count s q)
 
 module _ {L : Type 0} (state : L → LinkState) (start_at : L → LinkStart) where
-  -- an exchange is under way that moved so much, a call that put nothing counted as a task, and of
+  -- an exchange is under way that moved so much, a piece that put nothing counted as a task, and of
   -- which so many ends came
   pub record HasCounted (tasks ends : ℕ) (s : Origin) (link : LinkState) (ahead : List ℕ)
       (log : List LogEntry) (x : HookedExchange L) : Type 0 where

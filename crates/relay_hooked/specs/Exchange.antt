@@ -1,6 +1,6 @@
 -- An exchange so far behind an application's filters, over an HTTP/1 link to the peer, and what a
 -- turn makes of it.
-use Rattle.std.specs.Prelude.{◌≡◌, ◌⊎◌, ℕ, Bool, false, List, Option, Some}
+use Rattle.std.specs.Prelude.{◌≡◌, ◌⊎◌, ℕ, Bool, true, false, List, Option, None, Some}
 use Rattle.relay_tasks.specs.declared.error.Error.{Error}
 use Rattle.relay_tasks.specs.declared.error.Fail.TheVariants as fail
 use Rattle.relay_tasks.specs.declared.log.LogEntry.{LogEntry}
@@ -93,12 +93,13 @@ module _ {L : Type 0} (state : L → LinkState) (start_at : L → LinkStart) whe
     pub holds : IsBetween s link ahead log x down up
 
   -- both directions were relayed, which leaves both links so, and a session that answers the
-  -- request
+  -- request; no filter stopped the client's side
   pub record IsFinished (s : Origin) (p : Passed) (ahead : List ℕ) (log : List LogEntry)
       (x : HookedExchange L) : Type 0 where
     pub relayed : IsRelayed (filtering_of s log x.down) s p (state (link_of x))
         (start_at (link_of x))
     pub answers : x.down.inner.session.writing.request ≡ request_of s.head
+    pub goes_on : x.down.stopped ≡ None
     pub leaves : Leaves (filtering_of s log x.down) s p (state (link_of x))
         (start_at (link_of x)) relayed.order ahead x.down.inner.session (may_keep x)
     -- where the request had not ended before its first piece
@@ -106,11 +107,12 @@ module _ {L : Type 0} (state : L → LinkState) (start_at : L → LinkStart) whe
         → Keeps (state (link_of x)) (start_at (link_of x)) relayed.order (may_keep x)
 
   -- the response was over towards the client before its end was given to the filters, which leaves
-  -- both links so, and a session that answers the request
+  -- both links so, and a session that answers the request; no filter stopped the client's side
   pub record IsOverEarly (s : Origin) (p : Passed) (ahead : List ℕ) (log : List LogEntry)
       (x : HookedExchange L) : Type 0 where
     pub early : EndsEarly (filtering_of s log x.down) s p (state (link_of x)) (start_at (link_of x))
     pub answers : x.down.inner.session.writing.request ≡ request_of s.head
+    pub goes_on : x.down.stopped ≡ None
     pub leaves : Leaves (filtering_of s log x.down) s p (state (link_of x))
         (start_at (link_of x)) early.order ahead x.down.inner.session (may_keep x)
 
@@ -139,6 +141,8 @@ module _ {L : Type 0} (state : L → LinkState) (start_at : L → LinkStart) whe
     pub comes_to : ComesTo s passed link ahead log x result
     -- whatever it came to, the calls since the exchange began stand in order
     pub calls : InSegments x.down.of_head x.down.stopped (calls_behind s.called log)
+    -- and where memory was wanted in a hook it says so
+    pub lost : is_lost x.down.stopped ≡ true → result ≡ step.Failed fail.OutOfMemory
 
 -- by the links alone
 module _ {L : Type 0} (state : L → LinkState) where
@@ -161,7 +165,7 @@ module _ {L : Type 0} (state : L → LinkState) where
       uses.Asks result before after (state (link_of old)) (state (link_of new))
 
   -- what a turn moved, by its branch: a link was asked once, or none was and it moved a task,
-  -- brought an end, or called the filter of requests
+  -- brought an end, or passed a piece through the filters of requests
   abbrev pub HasMoved : Option Branch → LinkState → LinkState → List LogEntry → List LogEntry
       → HookedExchange L → HookedExchange L → Type 0
   HasMoved branch before after log log' old new =

@@ -1,7 +1,7 @@
 -- What was sent to the peer and what was written to the client of an attempt behind filters, in
 -- terms of the bytes that passed and of the calls of the attempt (RFC 9110, section 15.2; RFC 9112,
 -- sections 3 to 8).
-use Rattle.std.specs.Prelude.{◌≡◌, ◌↔◌, IsTrue, ℕ, Bool, true, false, ◌⊎◌, ◌&&◌, List, [], ◌∷◌, ◌++◌, drop, Option, Some, None, is_none}
+use Rattle.std.specs.Prelude.{◌≡◌, ◌↔◌, All, IsTrue, ℕ, Bool, true, false, ◌⊎◌, ◌&&◌, List, [], ◌∷◌, ◌++◌, drop, Option, Some, None, is_none}
 use Rattle.std.specs.List.{list_any, concat}
 use Rattle.relay_tasks.specs.declared.error.Error.{Error}
 use Rattle.relay_tasks.specs.declared.error.Fail.TheVariants as fail
@@ -40,11 +40,11 @@ use Rattle.relay_sides.specs.Client.{ClientBlames, FailsWrite, IsClient}
 use Rattle.relay_sides.specs.Filtered.{is_head_request}
 use Rattle.relay_filters.specs.Chain.{Refuses}
 use Rattle.relay_filters.specs.Hooked.{TakesOn}
-use Rattle.relay_filters.specs.Request.{PassesRequest, PieceCall, has_piece, takes_away}
+use Rattle.relay_filters.specs.Request.{InChains, PassesRequest, PieceCall, has_piece, pieces_in, takes_away}
 use Rattle.relay_filters.specs.Response.{BatchStops, MakesOf, WasMade}
 use Rattle.relay_attempt.specs.Order.{ArePieces, Asks}
 use Rattle.relay_attempt.specs.Passed.{Passed, asked}
-use Rattle.relay_hooked.specs.Calls.{Filtering}
+use Rattle.relay_hooked.specs.Calls.{Filtering, IsFilter}
 
 -- ---- the response
 
@@ -72,22 +72,25 @@ pub record AreSaid
 
 -- ---- both
 
--- what was sent is the front of the text of the head that is sent and of what the filter of
--- requests left, by these calls, of the client's body, from its first byte on. What was written is
+-- what was sent is the front of the text of the head that is sent and of what the filters of
+-- requests left, by these calls, those of each piece as one, of the client's body, from its first
+-- byte on. What was written is
 -- the front of the text of what the filters of responses made, by these calls, of the first of the
 -- tasks that the peer's bytes are. The first of these that the client's writer refuses is refused
 -- so; an end is asked for behind them only where one is among them, or where the response is over
--- behind them
+-- behind them. Each of the calls is a filter's
 pub record IsInOrderWith
     (refused : Option Error) (f : Filtering) (s : Origin) (p : Passed) (closed : Bool)
     : Type 0 where
+  pub are_filters : All IsFilter f.calls
   pub asks : Asks s p
   pub came : List HttpTask
   pub are_came : ArePieces asks.framing (drop asks.len (asked s p)) came
   -- the request has ended for the peer
   pub ended : Bool
   pub pieces : List HttpTask
-  pub passed : PassesRequest f.at_first ended (requests_in f.calls) (f.stopped ≡ None) came pieces
+  pub chains : InChains (requests_in f.calls) (f.stopped ≡ None)
+  pub passed : PassesRequest f.at_first ended (pieces_in f.calls) (f.stopped ≡ None) came pieces
   pub ends_last : EndsLast pieces
   pub taken : List HttpTask
   pub first_taken : IsFrontOf taken pieces
@@ -123,16 +126,16 @@ abbrev pub is_taken : Bool → Item → Bool
 is_taken given (item.Piece left end) = takes_away given left
 is_taken given other = false
 
--- the call took the piece away that it was given
+-- the calls of a piece took it away
 abbrev pub takes : LogEntry → Bool
 takes e = is_none e.error && is_taken (has_piece e.input) e.output
 
--- an end of what the filter of requests left has its cause: the client's body has ended, or a call
--- took a piece away
+-- an end of what the filters of requests left has its cause: the client's body has ended, or the
+-- calls of a piece took it away
 abbrev pub EndsByCause : Type 0
 EndsByCause = (refused : Option Error) (f : Filtering) (s : Origin) (p : Passed) (closed : Bool)
     → (order : IsInOrderWith refused f s p closed) → list_any is_end order.pieces ≡ true
-    → (list_any is_end order.came ≡ true) ⊎ (list_any takes (requests_in f.calls) ≡ true)
+    → (list_any is_end order.came ≡ true) ⊎ (list_any takes (pieces_in f.calls) ≡ true)
 
 -- the past of the client's side, behind the filters
 abbrev pub down_past : {f : Filtering} {s : Origin} {p : Passed} {closed : Bool}
@@ -157,7 +160,7 @@ up_past {p = p} order lost = record {
 }
 
 -- why an exchange failed with that error: the client's side answers for it, or the peer's side
--- does; the last call is one of the filter of requests, which answered it; a batch of what the peer
+-- does; the last call is one of a filter of requests, which answered it; a batch of what the peer
 -- gave, behind what was queued, was stopped by its last calls, for what the last of them answered
 -- or left; or the client's writer refuses with it what the filters made: of a whole batch, behind
 -- what was queued, the first task that is refused; or the last task that was queued, which ends
@@ -238,7 +241,7 @@ pub record FailsWith
 
 -- ---- what finishes
 
--- the whole request was sent, as the filter left it, with its end as the head that is sent frames
+-- the whole request was sent, as the filters left it, with its end as the head that is sent frames
 -- it
 pub record SendsWhole
     (f : Filtering) (s : Origin) (p : Passed) (closed : Bool) (order : IsInOrder f s p closed)

@@ -11,7 +11,6 @@ use Rattle.relay_core.specs.Past.{Origin, DownPast, UpPast}
 use Rattle.relay_core.specs.Table.{State, core, may_keep}
 use Rattle.relay_core.specs.declared.duplex.Duplex.{Duplex}
 use Rattle.relay_core.specs.declared.told.Told.{Told}
-use Rattle.relay_calls.specs.Log.{requests_in}
 use Rattle.relay_peer.specs.RequestWriting.{head_in}
 use Rattle.relay_peer.specs.H1Client.{may_keep_client}
 use Rattle.relay_peer.specs.Peer.{IsPeerSide, PeerBlames}
@@ -20,6 +19,7 @@ use Rattle.relay_peer.specs.declared.peer_side.PeerSide.{PeerSide}
 use Rattle.relay_sides.specs.Client.{CannotEnd, ClientBlames, ClientRefuses}
 use Rattle.relay_sides.specs.declared.client_side.ClientSide.{ClientSide}
 use Rattle.relay_filters.specs.Hooked.{BlamesOver, HookedPast, RefusesOver, shown_done}
+use Rattle.relay_filters.specs.Request.{pieces_in}
 use Rattle.relay_attempt.specs.Exchange.{DownHolds, down_state}
 use Rattle.relay_hooked.specs.Calls.{Filtering, calls_behind}
 
@@ -55,7 +55,7 @@ hooked_state b = record (down_state b.side) {
   request_ended = b.ended;
   body_done = shown_done b.stopped b.was_done (down_state b.side).body_done;
   told = b.told;
-  calls = length (requests_in b.log);
+  calls = length (pieces_in b.log);
 }
 
 module _ (link : LinkState) (ahead : List ℕ) (s : Origin) (b : Behind) where

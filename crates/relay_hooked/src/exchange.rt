@@ -2,8 +2,8 @@
 //! which is held between turns without it, and without the session and the context that hooks are
 //! shown (RFC 9112, sections 6, 7 and 9.3).
 ghost use Rattle.std.specs.declared.alloc.Global.{Global};
-ghost use Rattle.std.specs.Prelude.{◌≡◌, ◌↔◌, ◌^◌, ◌-◌, ◌+◌, ◌≤◌, Bool, ℕ, List, [], None, Some, false, drop, is_some, length, min, IfOk, IfErr, IsOkUnless, true, ◌⊎◌};
-ghost use Rattle.relay_tasks.specs.Head.{RequestHead};
+ghost use Rattle.std.specs.Prelude.{◌≡◌, ◌↔◌, ◌^◌, ◌-◌, ◌+◌, ◌*◌, ◌≤◌, Bool, ℕ, List, [], None, Some, false, drop, is_some, length, min, IfOk, IfErr, IsOkUnless, true, ◌⊎◌};
+ghost use Rattle.relay_tasks.specs.Log.{delays_of};
 ghost use Rattle.relay_links.specs.Link.{IsHandedOut};
 ghost use Rattle.relay_h1.specs.Framing.{request_framing};
 ghost use Rattle.relay_h1.specs.Verdict.{refused_from};
@@ -11,20 +11,19 @@ ghost use Rattle.relay_core.specs.Asked.{WaitRose};
 ghost use Rattle.relay_core.specs.Causes.{says_failed};
 ghost use Rattle.relay_core.specs.Past.{DownPast, Origin, UpPast};
 ghost use Rattle.relay_core.specs.Piece.{put_of, task_put_of};
-ghost use Rattle.relay_session.specs.Reading.{head_of};
 ghost use Rattle.relay_sides.specs.Client.{BeginsBehind, begun_past, put_again};
-ghost use Rattle.relay_sides.specs.Filtered.{is_head_request};
 ghost use Rattle.relay_sides.specs.Lent.{SameButHead};
-ghost use Rattle.relay_calls.specs.Log.{IsAllowed, requests_in};
+ghost use Rattle.relay_calls.specs.Log.{IsAllowed};
 ghost use Rattle.relay_exchange.specs.declared.exchange.Stage.TheVariants as stage;
 ghost use Rattle.relay_exchange.specs.Exchange.{TellsOn};
-ghost use Rattle.relay_filters.specs.Delay.{delays_of};
+ghost use Rattle.relay_filters.specs.Delay.{summed};
 ghost use Rattle.relay_filters.specs.Hooked.{Lasts, SameNames, Walks, is_lost, seen_by, stays_of, stood_head};
+ghost use Rattle.relay_filters.specs.Request.{pieces_in};
 ghost use Rattle.relay_filters.specs.Response.{SomeAllow};
 ghost use Rattle.relay_attempt.specs.Attempt.{IsAttempt};
 ghost use Rattle.relay_attempt.specs.Passed.{Passed};
 ghost use Rattle.relay_hooked.specs.Attempt.{HookedHalf, PeerHalf};
-ghost use Rattle.relay_hooked.specs.Begins.{CallsOnce, CannotPut, IsBegun, IsRefusedFor, IsUnbegun, kept_piece};
+ghost use Rattle.relay_hooked.specs.Begins.{CallsOnce, CannotPut, IsBegun, IsRefusedFor, IsUnbegun, calls_each, kept_piece};
 ghost use Rattle.relay_hooked.specs.Bound.{CountsOn, HasCounted};
 ghost use Rattle.relay_hooked.specs.Exchange.{Asks, HasMoved, IsBetween, IsSilent, IsUnderWay, MeetsSilence, SideHolds, Turns, TurnsBetween};
 ghost use Rattle.relay_hooked.specs.Head.{core_in, filtering_of, link_of, may_keep, side_state};
@@ -36,7 +35,7 @@ use relay_hooks::{ProxyHttp, Session};
 use relay_links::{ByteLink, Schedule};
 use relay_peer::PeerSide;
 use relay_session::{Front, HttpSession};
-use relay_sides::{ClientSide, is_head_request};
+use relay_sides::ClientSide;
 use relay_tasks::{Context, ErrorSource, Fail, Pause, PhaseLog, RequestHeader, Result};
 use std::alloc::Global;
 
@@ -66,7 +65,7 @@ pub struct Unbegun<L> {
 /// put before any turn. Where nothing was kept, and the body goes on, no filter is called.
 ///
 /// `InvalidHTTPHeader` of the source `Internal`, about `BadFraming`: exactly where
-/// `request_framing` refuses the head, before any call. Else the error of the filter, whose call
+/// `request_framing` refuses the head, before any call. Else the error of a filter, whose call
 /// stands in the log; or memory was wanted. Then the client's session, as hooks left it, and the
 /// link come back.
 pub fn begin<SV: ProxyHttp, L: ByteLink, F: Front>(
@@ -81,18 +80,17 @@ pub fn begin<SV: ProxyHttp, L: ByteLink, F: Front>(
     ensures begins { IfOk result (λ x. (front : F) (s : Origin) (came : List ℕ) (reused : Bool)
         → head ≡ s.sent → s.asked ≡ false → s.called ≡ session.old.seen.log
         → BeginsBehind s came (F.state front) (F.ahead front) client
-        → ((own : RequestHead) → head_of client.reading ≡ Some own
-        → is_head_request own.method ≡ is_head_request s.head.method)
         → IsHandedOut (L.state link) (L.start link) reused → s.reused ≡ reused
         → IsUnderWay L.state L.start s
         (record { came = came; written = []; got = []; sent = [] }) (F.state front)
         (F.ahead front) session.new.seen.log x) }
-    // The only call is that of the filter of requests with what is put again; where nothing is,
-    // there is none, and what hooks are shown is as it was.
-    ensures calls { IfOk result (λ x. CallsOnce session.old ctx.old client (SV.allows app.now)
-        (SV.mark_of app.now) session.new ctx.new x.down.inner.session) }
-    ensures once { IfOk result (λ x. length session.new.seen.log
-        ≡ length session.old.seen.log + length (put_again client)) }
+    // The only calls are those of the filters of requests with what is put again, the modules'
+    // where they stand; where nothing is, there is none, and what hooks are shown is as it was.
+    ensures calls { IfOk result (λ x. CallsOnce session.old ctx.old client
+        (IsAllowed (SV.allows app.now) (SomeAllow SV.Modules.allows)) (SV.mark_of app.now)
+        session.new ctx.new x.down.inner.session) }
+    ensures once { IfOk result (λ x. length session.new.seen.log ≡ length session.old.seen.log
+        + calls_each (is_some session.old.modules) * length (put_again client)) }
     ensures client { IfOk result (λ x. SameButHead client x.down.inner.session) }
     ensures over { IfOk result (λ x. link_of x ≡ link) }
     ensures at_first { IfOk result (λ x. x.down.at_first ≡ false) }
@@ -101,8 +99,9 @@ pub fn begin<SV: ProxyHttp, L: ByteLink, F: Front>(
     ensures refused { IsRefusedFor result
         (Fail.Error (refused_from ErrorSource.Internal Context.BadFraming)) session.old.seen.log
         session.new.seen.log ↔ (request_framing head ≡ None) }
-    ensures causes { IfErr result (IsUnbegun session.old ctx.old client (SV.allows app.now)
-        (SV.mark_of app.now) head session.new ctx.new) }
+    ensures causes { IfErr result (IsUnbegun session.old ctx.old client
+        (IsAllowed (SV.allows app.now) (SomeAllow SV.Modules.allows)) (SV.mark_of app.now) head
+        session.new ctx.new) }
 {
     let mut peer = PeerSide::new(alloc, link);
     if let Err(why) = peer.write_request_header(head) {
@@ -177,8 +176,8 @@ impl<L: ByteLink> HookedExchange<L> {
             → MeetsSilence L.state (F.state client.old) (F.state client.new) session.new.seen.log
             self.old self.new }
         // A turn asks one link once, or none. One that moved asked the link of its branch, or it
-        // put a task into a pipe, took some out of one, brought an end, or called the filter of
-        // requests.
+        // put a task into a pipe, took some out of one, brought an end, or passed a piece through
+        // the filters of requests.
         ensures asks { Asks L.state result.step (F.state client.old) (F.state client.new) self.old
             self.new }
         ensures moves { (s : Origin) (p : Passed)
@@ -187,7 +186,7 @@ impl<L: ByteLink> HookedExchange<L> {
             → result.step ≡ Step.Moved
             → HasMoved L.state result.branch (F.state client.old) (F.state client.new)
             session.old.seen.log session.new.seen.log self.old self.new }
-        // What was counted of it goes on with what the turn moved: what is moved, a call that puts
+        // What was counted of it goes on with what the turn moved: what is moved, a piece that puts
         // nothing counted as a task, is no more than twice the bytes that both links gave, and each
         // end comes once.
         ensures counts_on { (s : Origin) (tasks ends : ℕ)
@@ -195,10 +194,10 @@ impl<L: ByteLink> HookedExchange<L> {
             session.old.seen.log self.old
             → CountsOn L.state L.start tasks ends s (F.state client.new) (F.ahead client.new)
             session.old.seen.log session.new.seen.log self.old self.new result.step }
-        // A turn that does not fail takes no call of the filter of requests back.
+        // A turn that does not fail takes no call of the filters of requests back.
         ensures calls { says_failed result.step ≡ false
-            → length (requests_in session.old.seen.log)
-            ≤ length (requests_in session.new.seen.log) }
+            → length (pieces_in session.old.seen.log)
+            ≤ length (pieces_in session.new.seen.log) }
         // A turn that does not fail leaves the count of the client's faults, and a client's session
         // that no hook may have left as anything.
         ensures calm { says_failed result.step ≡ false
@@ -263,9 +262,9 @@ impl<L> HookedExchange<L> {
     /// since the exchange began, as `Rested::take_delay` of that log, which is the session's.
     pub fn take_delay(&mut self, log: &PhaseLog) -> u64
         ensures sum { result
-            ≡ min (delays_of (drop self.old.down.counted log.now)) (2 ^ 64 - 1) }
+            ≡ min (summed (drop self.old.down.counted (delays_of log.now))) (2 ^ 64 - 1) }
         ensures counted { self.new ≡ record self.old {
-          down = record self.old.down { counted = length log.now };
+          down = record self.old.down { counted = length (delays_of log.now) };
         } }
     {
         self.down.take_delay(log)
@@ -325,8 +324,8 @@ fn turn_over<SV: ProxyHttp, L: ByteLink, F: Front, H: Schedule>(
         (record { down = down.new.side.now; exchange = exchange.new }) }
     ensures errors { TellsOn down.old.side.now.told down.new.side.now.told result.step }
     ensures calls { says_failed result.step ≡ false
-        → length (requests_in down.old.session.now.seen.log)
-        ≤ length (requests_in down.new.session.now.seen.log) }
+        → length (pieces_in down.old.session.now.seen.log)
+        ≤ length (pieces_in down.new.session.now.seen.log) }
     ensures calm { says_failed result.step ≡ false
         → (F.state client.new).faults ≡ (F.state client.old).faults }
     ensures client_start { F.start client.new ≡ F.start client.old }
@@ -361,14 +360,6 @@ fn settled(left: &Rested, turn: Turn) -> Turn
         };
     }
     turn
-}
-
-/// Whether the request of that session is a HEAD, by the head that it has.
-fn asks_head(session: &HttpSession) -> bool
-    ensures { (head : RequestHead) → head_of session.now.reading ≡ Some head
-        → result ≡ is_head_request head.method }
-{
-    session.has_head() && is_head_request(session.req_header())
 }
 
 /// What the session has kept of a body as one piece, with the end, where the body has ended.
@@ -409,8 +400,7 @@ struct Unput {
 /// The client's side behind the filters of that application, and what is put before any turn: what
 /// passes of what the session has kept of the body. Where that puts nothing no filter is called.
 ///
-/// The error of the filter, or out of memory: then the client's session comes back, as hooks left
-/// it.
+/// The error of a filter, or out of memory: then the client's session comes back, as hooks left it.
 fn put_first<SV: ProxyHttp, F: Front>(
     app: &SV,
     alloc: Global,
@@ -421,21 +411,21 @@ fn put_first<SV: ProxyHttp, F: Front>(
     ensures begins { IfOk result (λ r. (front : F) (s : Origin) (came : List ℕ)
         → s.called ≡ session.old.seen.log
         → BeginsBehind s came (F.state front) (F.ahead front) client
-        → ((own : RequestHead) → head_of client.reading ≡ Some own
-        → is_head_request own.method ≡ is_head_request s.head.method)
         → SideHolds (F.state front) (F.ahead front) session.new.seen.log s r.down
         (begun_past came (put_of false r.piece))) }
     ensures begun { IfOk result (λ r. IsBegun client r.down r.piece) }
-    ensures calls { IfOk result (λ r. CallsOnce session.old ctx.old client (SV.allows app.now)
-        (SV.mark_of app.now) session.new ctx.new r.down.inner.session) }
+    ensures calls { IfOk result (λ r. CallsOnce session.old ctx.old client
+        (IsAllowed (SV.allows app.now) (SomeAllow SV.Modules.allows)) (SV.mark_of app.now)
+        session.new ctx.new r.down.inner.session) }
     ensures causes { IfErr result (λ unput. CannotPut session.old ctx.old client
-        (SV.allows app.now) (SV.mark_of app.now) unput.why session.new ctx.new unput.client) }
+        (IsAllowed (SV.allows app.now) (SomeAllow SV.Modules.allows)) (SV.mark_of app.now)
+        unput.why session.new ctx.new unput.client) }
 {
     let kept = match kept_of(alloc, &client) {
         Ok(kept) => kept,
         Err(why) => return Err(Unput { client, why }),
     };
-    let of_head = asks_head(&client);
+    let of_head = client.answers_head();
     let inner = ClientSide::new(alloc, client);
     if !puts(&kept) {
         let down = Rested::begin::<F>(inner, session.phase_log(), false, of_head);

@@ -50,8 +50,8 @@ pub fn calls_in_order()
     ensures { ComeInOrder }
 {}
 
-/// An end of what the filter of requests left has its cause: the client's body has ended, or a call
-/// took a piece away.
+/// An end of what the filters of requests left has its cause: the client's body has ended, or the
+/// calls of a piece took it away.
 pub fn end_caused()
     ensures { EndsByCause }
 {}

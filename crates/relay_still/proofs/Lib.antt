@@ -1,7 +1,9 @@
-mod FitLemmas
+pub mod FitLemmas
 mod StopLemmas
 mod SaidLemmas
 mod WriterLemmas
-mod RequestLemmas
-mod FailLemmas
-mod EarlyLemmas
+pub mod RequestLemmas
+pub mod FailLemmas
+mod OpenLemmas
+pub mod EarlyLemmas
+pub mod UnshortLemmas

@@ -13,10 +13,9 @@ use Rattle.relay_tasks.specs.declared.log.LogEntry.{LogEntry}
 use Rattle.relay_tasks.specs.declared.task.HttpTask.{HttpTask}
 use Rattle.relay_h1.specs.Body.{ended_text}
 use Rattle.relay_peer.specs.Body.{IsFrontOf, body_of}
-use Rattle.relay_calls.specs.Log.{requests_in}
 use Rattle.relay_core.specs.Past.{Origin}
 use Rattle.relay_sides.proofs.ClientPast.{body_of-append}
-use Rattle.relay_filters.specs.Request.{ToldLast, PieceCall, bytes_in, end_in, ended_by, given_to, has_piece, is_end_by, is_end_in, is_told_end, passed, passes}
+use Rattle.relay_filters.specs.Request.{ToldLast, PieceCall, bytes_in, end_in, ended_by, given_to, has_piece, is_end_by, is_end_in, is_told_end, passed, passes, pieces_in}
 use Rattle.relay_filters.proofs.PassedLemmas.{told_is_last}
 use Rattle.relay_attempt.specs.Order.{ArePieces}
 use Rattle.relay_attempt.specs.Passed.{Passed, asked}
@@ -24,8 +23,7 @@ use Rattle.relay_hooked.specs.Calls.{Filtering}
 use Rattle.relay_hooked.specs.Neutral.{AreNeutral, LeavesIt}
 use Rattle.relay_hooked.specs.Order.{IsInOrderWith}
 use Rattle.relay_hooked.proofs.HalfLemmas.{body_same}
-use Rattle.relay_hooked.proofs.MadeLemmas.{part_neutral}
-use Rattle.relay_hooked.proofs.NeutralLemmas.{call_bytes, passed_none}
+use Rattle.relay_hooked.proofs.NeutralLemmas.{call_bytes, passed_none, pieces_neutral}
 use Rattle.relay_hooked.proofs.PassedLemmas.{passed_ends}
 
 -- ---- one call
@@ -133,8 +131,9 @@ pub whole_pieces : (f : Filtering) (s : Origin) (p : Passed) (closed : Bool)
     → list_any is_end o.pieces ≡ true
     → ArePieces o.asks.framing (drop o.asks.len (asked s p)) o.pieces
 whole_pieces f s p closed refused o n ends =
-    let es = requests_in f.calls in
-    let last = last_behind f.at_first es (part_neutral _ f.calls n) o.passed.each
+    let es = pieces_in f.calls in
+    let last = last_behind f.at_first es
+    (pieces_neutral f.calls (f.stopped ≡ None) o.chains n) o.passed.each
     (sym (ap (list_any is_end) o.passed.left) ∙ ends) in
     let none = told_is_last last.front last.behind last.e
     (subst (λ (l : List LogEntry). ToldLast l) last.are o.passed.told_last) last.told in

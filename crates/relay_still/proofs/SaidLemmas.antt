@@ -46,7 +46,7 @@ use Rattle.relay_still.proofs.StopLemmas.{TaskMayPass}
 -- ---- the heads that tasks tell
 
 -- a head among tasks is an informational one, or the final one that is told
-abbrev IsToldHead : ToldResponse → HttpTask → Type 0
+abbrev pub IsToldHead : ToldResponse → HttpTask → Type 0
 IsToldHead told (task.Header head end) =
     (is_informational head.status ≡ true) ⊎ (told.final ≡ Some head)
 IsToldHead told (task.Body piece end) = Unit {0}
@@ -78,7 +78,7 @@ one_told told task.Done tasks follow = tt
 one_told told (task.Failed error) tasks follow = tt
 
 -- and each of them
-all_told : (told : ToldResponse) (tasks : List HttpTask) → Follow told tasks
+pub all_told : (told : ToldResponse) (tasks : List HttpTask) → Follow told tasks
     → All (IsToldHead (told_behind told tasks)) tasks
 all_told told [] follow = All-nil (IsToldHead (told_behind told []))
 all_told told (one ∷ tasks) follow =

@@ -3,7 +3,6 @@ use Rattle.std.specs.Prelude.{◌≡◌, Bool, true, false}
 use Rattle.relay_tasks.specs.declared.error.Error.{Error}
 use Rattle.relay_links.specs.Link.{LinkState, LinkStart}
 use Rattle.relay_core.specs.Past.{Origin}
-use Rattle.relay_sides.specs.Filtered.{RefusesHead}
 use Rattle.relay_attempt.specs.Agrees.{AsksAlike}
 use Rattle.relay_attempt.specs.Passed.{Passed}
 use Rattle.relay_valid.specs.Unfit.{IsUnfit}
@@ -45,11 +44,9 @@ ValidNeverFails = (f : Filtering) (s : Origin) (p : Passed) (client link : LinkS
     (start : LinkStart) (e : Error) → FailsFor f s p client link start e → AreNeutral f.calls
     → ¬ (IsValid s p client link start)
 
--- what ended early, where each call left what it was given and answered no error, both heads ask
--- alike, and no head of the response is refused, is no response that is broken, cut off or switches
--- protocols
+-- what ended early, where each call left what it was given and answered no error, and both heads
+-- ask alike, is no response that is broken, cut off or switches protocols
 abbrev pub EarlyIsFit : Type 0
 EarlyIsFit = (f : Filtering) (s : Origin) (p : Passed) (link : LinkState) (start : LinkStart)
     → EndsEarly f s p link start → AreNeutral f.calls → AsksAlike s.head s.sent
-    → ((e : Error) → ¬ (RefusesHead s.sent.method s.asked p.got e))
     → ¬ (IsUnfit s.sent.method s.asked p.got link.ended)

@@ -111,10 +111,11 @@ fn read(held: &mut Held<'_>, client: &mut Client) -> Given {
     given(&side.read_piece(client, false))
 }
 
-/// What two reads give behind that application, and how many calls were entered.
-fn reads(app: &App<Changes>, alloc: Global) -> Result<(Given, Given, usize)> {
+/// What two reads give behind that application, whose modules were made or not, and how many calls
+/// were entered.
+fn reads(app: &App<Changes>, alloc: Global, made: bool) -> Result<(Given, Given, usize)> {
     let mut client = client(alloc)?;
-    let mut held = begun(app, alloc, Framing::Length(4), true, false)?;
+    let mut held = begun(app, alloc, Framing::Length(4), made, false)?;
     let first = read(&mut held, &mut client);
     let second = read(&mut held, &mut client);
     Ok((first, second, entered(&held)))
@@ -122,14 +123,17 @@ fn reads(app: &App<Changes>, alloc: Global) -> Result<(Given, Given, usize)> {
 
 #[test]
 fn gathers_two_pieces_in_one(rt: HostRuntime) {
+    let wanted = Ok((Some((0, false)), Some((4, true)), 4));
+    assert!(rt; reads(&app(Does::Gathers), rt.alloc(), true) == wanted);
+    // before modules are made they are not called
     let wanted = Ok((Some((0, false)), Some((4, true)), 2));
-    assert!(rt; reads(&app(Does::Gathers), rt.alloc()) == wanted);
+    assert!(rt; reads(&app(Does::Gathers), rt.alloc(), false) == wanted);
 }
 
 #[test]
 fn ends_the_request_where_a_piece_is_taken_away(rt: HostRuntime) {
-    let wanted = Ok((Some((0, true)), Some((0, false)), 2));
-    assert!(rt; reads(&app(Does::Cuts), rt.alloc()) == wanted);
+    let wanted = Ok((Some((0, true)), Some((0, false)), 4));
+    assert!(rt; reads(&app(Does::Cuts), rt.alloc(), true) == wanted);
 }
 
 /// The side behind that application over that of a client, where an attempt puts again two bytes
@@ -182,13 +186,13 @@ fn again(app: &App<Changes>, alloc: Global) -> Result<([Given; 3], usize)> {
 
 #[test]
 fn gathers_what_is_put_again_with_what_is_read(rt: HostRuntime) {
-    let wanted = Ok(([Some((0, false)), Some((0, false)), Some((6, true))], 3));
+    let wanted = Ok(([Some((0, false)), Some((0, false)), Some((6, true))], 6));
     assert!(rt; again(&app(Does::Gathers), rt.alloc()) == wanted);
 }
 
 #[test]
 fn ends_the_request_where_what_is_put_again_is_taken_away(rt: HostRuntime) {
-    let wanted = Ok(([Some((0, true)), Some((0, false)), Some((0, false))], 3));
+    let wanted = Ok(([Some((0, true)), Some((0, false)), Some((0, false))], 6));
     assert!(rt; again(&app(Does::Cuts), rt.alloc()) == wanted);
 }
 

@@ -115,7 +115,7 @@ fn left(held: &Held, sent: &str) -> (bool, bool, usize, bool) {
     )
 }
 
-/// Whether the exchange finishes with these texts and eight calls, and its link may be kept.
+/// Whether the exchange finishes with these texts and ten calls, and its link may be kept.
 fn finishes(
     held: &mut Held,
     app: &App<Changes>,
@@ -125,7 +125,7 @@ fn finishes(
     written: &str,
 ) -> bool {
     let last = run(held, app, alloc, client);
-    left(held, sent) == (true, true, 8, true)
+    left(held, sent) == (true, true, 10, true)
         && last == Step::Finished
         && has_taken(client.link(), written)
 }

@@ -35,7 +35,7 @@ returns-in-Ok-clause-begins g c =
     ap (λ (o : Option Fail).
     shown_done o side.was.body_done (is_body_done side.inner.session.reading)) begins.goes_on
     ∙ begins.body ∙ sym value in
-    λ front s came reused own none called behind heads out used.
+    λ front s came reused own none called behind out used.
     let link = g.F.Front.state front in
     let ahead = g.F.Front.ahead front in
     let past = begun_past came (put_of false c.in-Ok.field-0.piece) in
@@ -57,7 +57,7 @@ returns-in-Ok-clause-begins g c =
     (put_first (Some c.in-Ok.field-0.piece)) (side_state log side) (peer.state_of up) past
     none_passed
     (record {
-      down_holds = c.in-Ok.ensures.begins front s came called behind heads;
+      down_holds = c.in-Ok.ensures.begins front s came called behind;
       up_holds = c.in_default.ensures.begins s own none c.new-peer.ensures.fresh reused
           (subst (λ l. IsHandedOut (state l) (start_at l) reused) (sym c.new-peer.ensures.link) out)
           used;
@@ -82,7 +82,7 @@ returns-in-Ok-clause-begins g c =
     (c.begin-exchange.ensures.sound (side_state log side) done))
     (ap (λ (o : Option Fail). is_lost o) begins.goes_on) begins.untold)
 
--- its log has grown by its first call
+-- its log has grown by its first calls
 pub returns-in-Ok-clause-once : goal.returns-in-Ok-clause-once
 returns-in-Ok-clause-once g c =
     grown c.args.session.now c.args.ctx.now c.args.client _ _ c.put_first.new.session
@@ -97,8 +97,8 @@ returns-in-Err-clause-refused g c =
 -- nor has one of which nothing could be put first
 pub returns-in-Err-put_first-clause-refused : goal.returns-in-Err-put_first-clause-refused
 returns-in-Err-put_first-clause-refused g c =
-    refused_later c.args.session.now c.args.ctx.now c.args.client
-    (g.SV.ProxyHttp.allows c.args.app.now) (g.SV.ProxyHttp.mark_of c.args.app.now) c.args.head
+    refused_later c.args.session.now c.args.ctx.now c.args.client _
+    (g.SV.ProxyHttp.mark_of c.args.app.now) c.args.head
     c.put_first.new.session c.put_first.new.ctx _ c.in-Err-put_first.ensures.causes
     (λ none. (let wrong = c.in_default.ensures.refused.1 none in absurd (cc)))
 

@@ -4,7 +4,6 @@ use Rattle.std.specs.List.{list_any}
 use Rattle.relay_tasks.specs.declared.error.Fail.{Fail}
 use Rattle.relay_tasks.specs.declared.log.LogEntry.{LogEntry}
 use Rattle.relay_tasks.specs.Task.{is_end}
-use Rattle.relay_session.specs.Reading.{head_of}
 use Rattle.relay_core.specs.Past.{DownPast}
 use Rattle.relay_core.specs.Piece.{put_of}
 use Rattle.relay_core.specs.declared.piece.Piece.{Piece}
@@ -13,12 +12,12 @@ use Rattle.relay_sides.specs.declared.client_side.ClientSide.{ClientSide}
 use Rattle.relay_filters.specs.Hooked.{put_by}
 use Rattle.relay_filters.specs.Request.{is_last}
 use Rattle.relay_hooked.specs.Exchange.{SideHolds}
-use Rattle.relay_hooked.proofs.BeginLemmas.{by_head, calls_by, calls_none, cannot_by, last_is_end, puts_none}
+use Rattle.relay_hooked.proofs.BeginLemmas.{by_request, calls_by, calls_none, cannot_by, last_is_end, puts_none}
 use Rattle.relay_hooked.proofs.exchange.put_first.Goals as goal
 
 -- nothing is put again, and all is as it was
 pub returns-then-not-puts-clause-begins : goal.returns-then-not-puts-clause-begins
-returns-then-not-puts-clause-begins g c = λ front s came called behind heads.
+returns-then-not-puts-clause-begins g c = λ front s came called behind.
     let side = c.begin-down.result in
     let log = c.phase_log.ensures in
     subst (λ (l : List LogEntry).
@@ -32,8 +31,8 @@ returns-then-not-puts-clause-begins g c = λ front s came called behind heads.
     (ap (λ (k : Piece). put_of false k) (sym c.in-Ok.ensures.ok)
     ∙ puts_none c.in-Ok.kept (sym c.puts.ensures ∙ c.if-not-puts.true))
     refl
-    (by_head (head_of c.args.client.reading) c.asks_head-of_head.result s.head.method
-    behind.has_head c.asks_head-of_head.ensures heads)
+    (by_request c.args.client.writing.request c.answers_head-of_head.result behind.head s.head
+    c.answers_head-of_head.ensures behind.answers behind.own)
     (c.new-inner.ensures.begins s came (g.F.Front.state front) (g.F.Front.ahead front) behind)
     (called ∙ sym log)))
 
@@ -47,7 +46,7 @@ returns-then-not-puts-clause-calls g c =
 
 -- what was kept passed its filter
 pub returns-in-Ok-passed-clause-begins : goal.returns-in-Ok-passed-clause-begins
-returns-in-Ok-passed-clause-begins g c = λ front s came called behind heads.
+returns-in-Ok-passed-clause-begins g c = λ front s came called behind.
     subst (λ (p : DownPast).
     SideHolds (g.F.Front.state front) (g.F.Front.ahead front)
     c.begin_again-down.new.session.seen.log s c.begin_again-down.result.0 p)
@@ -58,8 +57,8 @@ returns-in-Ok-passed-clause-begins g c = λ front s came called behind heads.
     (subst (λ (k : Piece).
     is_last k ≡ true → list_any is_end (put_of false k) ≡ true) (sym c.in-Ok.ensures.ok)
     (last_is_end c.args.client))
-    (by_head (head_of c.args.client.reading) c.asks_head-of_head.result s.head.method
-    behind.has_head c.asks_head-of_head.ensures heads)
+    (by_request c.args.client.writing.request c.answers_head-of_head.result behind.head s.head
+    c.answers_head-of_head.ensures behind.answers behind.own)
     (c.new-inner.ensures.begins s came (g.F.Front.state front) (g.F.Front.ahead front) behind)
     called)
 

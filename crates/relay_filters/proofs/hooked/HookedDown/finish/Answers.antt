@@ -5,7 +5,7 @@ use Rattle.relay_filters.specs.Hooked.{is_lost}
 use Rattle.relay_filters.proofs.LastLemmas.{same_names}
 use Rattle.relay_filters.proofs.LentSide.{client_goes, past_of}
 use Rattle.relay_filters.proofs.QuietLemmas.{past_goes, quiet_by, quiet_failed}
-use Rattle.relay_filters.proofs.WalkLemmas.{lasts_same, lasts_side}
+use Rattle.relay_filters.proofs.WalkLemmas.{lasts_same, lasts_side, led_none}
 use Rattle.relay_filters.proofs.hooked.HookedDown.finish.Goals as goal
 
 pub returns-in-Ok-clause-goes : goal.returns-in-Ok-clause-goes
@@ -36,19 +36,28 @@ pub returns-in-Ok-clause-lasts : goal.returns-in-Ok-clause-lasts
 returns-in-Ok-clause-lasts g c = (
   lasts_side _ _ _ _ (is_lost c.args.self.now.side.now.stopped) c.args.self.now.session.now.seen
       c.args.self.now.side.now.inner.session c.finish.new.self.session _ c.in-Ok.ensures.lasts,
-  same_names _ _ _,
+  (
+    same_names _ _ _,
+    led_none _ _ _ refl,
+  ),
 )
 
 pub returns-in-Err-clause-lasts : goal.returns-in-Err-clause-lasts
 returns-in-Err-clause-lasts g c = (
   lasts_side _ _ _ _ (is_lost c.args.self.now.side.now.stopped) c.args.self.now.session.now.seen
       c.args.self.now.side.now.inner.session c.finish.new.self.session _ c.in-Err.ensures.lasts,
-  same_names _ _ _,
+  (
+    same_names _ _ _,
+    led_none _ _ _ refl,
+  ),
 )
 
 pub returns-then-is_lost-clause-lasts : goal.returns-then-is_lost-clause-lasts
 returns-then-is_lost-clause-lasts g c = (
   lasts_same _ _ _ _ (is_lost c.args.self.now.side.now.stopped) c.args.self.now.session.now.seen
       c.args.self.now.side.now.inner.session _,
-  same_names _ _ _,
+  (
+    same_names _ _ _,
+    led_none _ _ _ refl,
+  ),
 )

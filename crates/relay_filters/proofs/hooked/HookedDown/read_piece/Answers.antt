@@ -11,7 +11,7 @@ use Rattle.relay_filters.proofs.LentSide.{client_goes, lent_reads, lent_stops, n
 use Rattle.relay_filters.proofs.QuietLemmas.{past_goes, quiet_alone, quiet_by, quiet_failed, quiet_paused, quiet_stops, stopped_before, told_given}
 use Rattle.relay_filters.proofs.SegmentLemmas.{segments_piece, segments_refused}
 use Rattle.relay_filters.proofs.StateLemmas.{ended_behind, gives_piece}
-use Rattle.relay_filters.proofs.WalkLemmas.{lasts_piece, lasts_refused, lasts_same, lasts_side}
+use Rattle.relay_filters.proofs.WalkLemmas.{lasts_piece, lasts_refused, lasts_same, lasts_side, led_came, led_none, led_refused}
 use Rattle.relay_filters.proofs.hooked.HookedDown.read_piece.Goals as goal
 
 -- a side that has stopped answers why
@@ -47,10 +47,10 @@ returns-in-Ok-clause-goes g c =
     (segments_piece s.called h.passed.own c.args.self.now.session.now.seen.log h.passed.parts _ _
     c.in-None.is h.calls
     (seen_by c.pass_piece.new.session.seen c.pass_piece.new.inner.session) _
-    (seen_by c.args.self.now.session.now.seen c.read_piece.new.self.session) _ _ _ c.in-Item.piece
+    (seen_by c.args.self.now.session.now.seen c.read_piece.new.self.session) _ _ _ _ c.in-Item.piece
     c.in-Ok.made refl c.in-Ok.ensures.filters)
     (lent_reads s _ _ _ _ c.args.self.now.side.now.inner c.read_piece.new.self c.pass_piece.new.inner _
-    _ _ c.args.self.now.session.now.seen _ s.called _ _ _ _ _ c.args.self.now.side.now.stopped p
+    _ _ c.args.self.now.session.now.seen _ s.called _ _ _ _ _ _ c.args.self.now.side.now.stopped p
     c.in-Item.piece
     c.pass_piece.new.session.seen _ c.in-None.is h.passed
     c.in-Item.ensures.lasts.head c.in-Ok.ensures.rest c.in-Item.ensures.reads
@@ -64,7 +64,7 @@ returns-in-Ok-clause-goes g c =
 pub returns-in-Ok-clause-reads : goal.returns-in-Ok-clause-reads
 returns-in-Ok-clause-reads g c =
     rw (c.either-self.ensures)
-    (gives_piece _ c.args.self.now.side.now.inner c.read_piece.new.self c.pass_piece.new.inner
+    (gives_piece _ _ c.args.self.now.side.now.inner c.read_piece.new.self c.pass_piece.new.inner
     c.args.self.now.session.now.seen _ c.pass_piece.new.session.seen _ _ _
     c.args.self.now.side.now.stopped _ c.args.self.now.session.now.seen.log c.in-Item.piece
     c.in-Ok.made
@@ -89,10 +89,10 @@ returns-in-Err-clause-goes g c =
     (segments_refused s.called h.passed.own c.args.self.now.session.now.seen.log h.passed.parts _ _
     c.in-None.is h.calls
     (seen_by c.pass_piece.new.session.seen c.pass_piece.new.inner.session) _
-    (seen_by c.args.self.now.session.now.seen c.read_piece.new.self.session) _ _
+    (seen_by c.args.self.now.session.now.seen c.read_piece.new.self.session) _ _ _
     c.args.self.now.side.now.ended c.in-Item.piece c.in-Err.why refl c.in-Err.ensures.filters)
     (lent_stops s _ _ _ _ c.args.self.now.side.now.inner c.read_piece.new.self c.pass_piece.new.inner _
-    _ _ c.args.self.now.session.now.seen _ s.called _ _ _ _ _ c.args.self.now.side.now.stopped p
+    _ _ c.args.self.now.session.now.seen _ s.called _ _ _ _ _ _ c.args.self.now.side.now.stopped p
     c.in-Item.piece
     c.pass_piece.new.session.seen _ c.in-None.is h.passed
     c.in-Item.ensures.lasts.head c.in-Err.ensures.rest c.in-Item.ensures.reads
@@ -157,65 +157,94 @@ pub returns-in-Some-clause-lasts : goal.returns-in-Some-clause-lasts
 returns-in-Some-clause-lasts g c = (
   lasts_same _ _ _ _ (is_lost c.args.self.now.side.now.stopped) c.args.self.now.session.now.seen
       c.args.self.now.side.now.inner.session _,
-  same_names _ _ _,
+  (
+    same_names _ _ _,
+    led_none _ _ _ refl,
+  ),
 )
 
 pub returns-then-not-has_head-clause-lasts : goal.returns-then-not-has_head-clause-lasts
 returns-then-not-has_head-clause-lasts g c = (
   lasts_same _ _ _ _ (is_lost c.args.self.now.side.now.stopped) c.args.self.now.session.now.seen
       c.args.self.now.side.now.inner.session _,
-  same_names _ _ _,
+  (
+    same_names _ _ _,
+    led_none _ _ _ refl,
+  ),
 )
 
 pub returns-in-Ok-clause-lasts : goal.returns-in-Ok-clause-lasts
 returns-in-Ok-clause-lasts g c = (
-  lasts_piece _ _ _ _ _ c.args.self.now.side.now.stopped c.args.self.now.session.now.seen
+  lasts_piece _ _ _ _ c.args.self.now.side.now.stopped c.args.self.now.session.now.seen
       c.args.self.now.side.now.inner.session c.read_piece.new.self.session
-      c.pass_piece.new.inner.session _ _ c.in-Item.piece c.in-Ok.made
+      c.pass_piece.new.inner.session _ _ _ c.in-Item.piece c.in-Ok.made
       c.pass_piece.new.session.seen _ c.in-None.is
       (subst (λ (x : HttpSession). IsSome (head_of x.reading)) c.session.ensures
       (c.has_head.ensures.0 c.if-not-has_head.false))
       c.in-Item.ensures.lasts c.in-Ok.ensures.filters,
-  same_names _ _ _,
+  (
+    same_names _ _ _,
+    led_came _ _ _ _ _ _ c.args.self.now.session.now.seen c.read_piece.new.self.session _
+        c.pass_piece.new.session.seen c.pass_piece.new.inner.session _
+        c.in-Ok.ensures.filters.came,
+  ),
 )
 
 pub returns-in-Err-clause-lasts : goal.returns-in-Err-clause-lasts
 returns-in-Err-clause-lasts g c =
     rw c.stop.ensures (
-      lasts_refused _ _ _ _ _ c.args.self.now.side.now.stopped c.in-Err.why
+      lasts_refused _ _ _ _ c.args.self.now.side.now.stopped c.in-Err.why
           c.args.self.now.session.now.seen c.args.self.now.side.now.inner.session
-          c.read_piece.new.self.session c.pass_piece.new.inner.session _ c.args.self.now.side.now.ended
-          c.in-Item.piece c.pass_piece.new.session.seen _ c.in-None.is
+          c.read_piece.new.self.session c.pass_piece.new.inner.session _ _
+          c.args.self.now.side.now.ended c.in-Item.piece c.pass_piece.new.session.seen _ c.in-None.is
           (subst (λ (x : HttpSession). IsSome (head_of x.reading)) c.session.ensures
           (c.has_head.ensures.0 c.if-not-has_head.false))
           c.in-Item.ensures.lasts c.in-Err.ensures.filters,
-      same_names _ _ _,
+      (
+        same_names _ _ _,
+        led_refused _ _ c.args.self.now.side.now.ended c.in-Item.piece c.in-Err.why
+            c.args.self.now.session.now.seen c.read_piece.new.self.session _
+            c.pass_piece.new.session.seen c.pass_piece.new.inner.session _
+            c.in-Err.ensures.filters,
+      ),
     )
 
 pub returns-in-More-clause-lasts : goal.returns-in-More-clause-lasts
 returns-in-More-clause-lasts g c = (
   lasts_side _ _ _ _ (is_lost c.args.self.now.side.now.stopped) c.args.self.now.session.now.seen
       c.args.self.now.side.now.inner.session c.read_piece.new.self.session _ c.in-More.ensures.lasts,
-  same_names _ _ _,
+  (
+    same_names _ _ _,
+    led_none _ _ _ refl,
+  ),
 )
 
 pub returns-in-Waited-clause-lasts : goal.returns-in-Waited-clause-lasts
 returns-in-Waited-clause-lasts g c = (
   lasts_side _ _ _ _ (is_lost c.args.self.now.side.now.stopped) c.args.self.now.session.now.seen
       c.args.self.now.side.now.inner.session c.read_piece.new.self.session _ c.in-Waited.ensures.lasts,
-  same_names _ _ _,
+  (
+    same_names _ _ _,
+    led_none _ _ _ refl,
+  ),
 )
 
 pub returns-in-End-clause-lasts : goal.returns-in-End-clause-lasts
 returns-in-End-clause-lasts g c = (
   lasts_side _ _ _ _ (is_lost c.args.self.now.side.now.stopped) c.args.self.now.session.now.seen
       c.args.self.now.side.now.inner.session c.read_piece.new.self.session _ c.in-End.ensures.lasts,
-  same_names _ _ _,
+  (
+    same_names _ _ _,
+    led_none _ _ _ refl,
+  ),
 )
 
 pub returns-in-Failed-clause-lasts : goal.returns-in-Failed-clause-lasts
 returns-in-Failed-clause-lasts g c = (
   lasts_side _ _ _ _ (is_lost c.args.self.now.side.now.stopped) c.args.self.now.session.now.seen
       c.args.self.now.side.now.inner.session c.read_piece.new.self.session _ c.in-Failed.ensures.lasts,
-  same_names _ _ _,
+  (
+    same_names _ _ _,
+    led_none _ _ _ refl,
+  ),
 )

@@ -11,7 +11,7 @@ use Rattle.relay_filters.proofs.QuietLemmas.{past_goes, past_refused, quiet_alon
 use Rattle.relay_filters.proofs.SideLemmas.{alone_at_once, at_once, true_is}
 use Rattle.relay_filters.proofs.SegmentLemmas.{segments_batch, segments_stopped}
 use Rattle.relay_filters.proofs.StateLemmas.{fails_batch, queues_batch, refuses_batch}
-use Rattle.relay_filters.proofs.WalkLemmas.{lasts_batch, lasts_same, lasts_stopped}
+use Rattle.relay_filters.proofs.WalkLemmas.{lasts_batch, lasts_same, lasts_stopped, led_batch, led_none, led_stopped}
 use Rattle.relay_filters.proofs.hooked.HookedDown.take_batch.Goals as goal
 
 -- before any filter was called
@@ -150,7 +150,10 @@ pub returns-in-Some-clause-lasts : goal.returns-in-Some-clause-lasts
 returns-in-Some-clause-lasts g c = (
   lasts_same _ _ _ _ (is_lost c.args.self.now.side.now.stopped) c.args.self.now.session.now.seen
       c.args.self.now.side.now.inner.session _,
-  same_names _ _ _,
+  (
+    same_names _ _ _,
+    led_none _ _ _ refl,
+  ),
 )
 
 pub returns-in-Err-clause-lasts : goal.returns-in-Err-clause-lasts
@@ -160,7 +163,12 @@ returns-in-Err-clause-lasts g c =
           c.args.self.now.session.now.seen c.args.self.now.side.now.inner.session
           c.pass_tasks.new.inner.session _ c.pass_tasks.new.session.seen _ (sym c.in-None.ensures)
           c.in-Err.ensures.filters,
-      same_names _ _ _,
+      (
+        same_names _ _ _,
+        led_stopped _ _ _ _ _ c.in-Err.why c.args.self.now.session.now.seen
+            c.args.self.now.side.now.inner.session _ c.pass_tasks.new.session.seen
+            c.pass_tasks.new.inner.session _ c.in-Err.ensures.filters c.in-Err.ensures.requests,
+      ),
     )
 
 pub returns-in-Ok-take_batch-clause-lasts : goal.returns-in-Ok-take_batch-clause-lasts
@@ -169,7 +177,11 @@ returns-in-Ok-take_batch-clause-lasts g c = (
       c.args.self.now.side.now.inner.session c.pass_tasks.new.inner.session
       c.take_batch.new.self.session _ c.pass_tasks.new.session.seen _ c.in-Ok.ensures.filters.0
       (sym c.in-None.ensures) c.in-Ok-take_batch.ensures.lasts c.in-Ok.ensures.filters.1,
-  same_names _ _ _,
+  (
+    same_names _ _ _,
+    led_batch _ c.args.self.now.session.now.seen c.pass_tasks.new.session.seen
+        c.in-Ok.ensures.filters.0 c.in-Ok.ensures.filters.1.log c.in-Ok.ensures.requests,
+  ),
 )
 
 pub returns-in-Err-take_batch-clause-lasts : goal.returns-in-Err-take_batch-clause-lasts
@@ -178,5 +190,9 @@ returns-in-Err-take_batch-clause-lasts g c = (
       c.args.self.now.side.now.inner.session c.pass_tasks.new.inner.session
       c.take_batch.new.self.session _ c.pass_tasks.new.session.seen _ c.in-Ok.ensures.filters.0
       (sym c.in-None.ensures) c.in-Err-take_batch.ensures.lasts c.in-Ok.ensures.filters.1,
-  same_names _ _ _,
+  (
+    same_names _ _ _,
+    led_batch _ c.args.self.now.session.now.seen c.pass_tasks.new.session.seen
+        c.in-Ok.ensures.filters.0 c.in-Ok.ensures.filters.1.log c.in-Ok.ensures.requests,
+  ),
 )

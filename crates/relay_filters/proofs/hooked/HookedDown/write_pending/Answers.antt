@@ -4,7 +4,7 @@ use Rattle.relay_filters.specs.Hooked.{is_lost}
 use Rattle.relay_filters.proofs.LastLemmas.{same_names}
 use Rattle.relay_filters.proofs.LentSide.{client_goes, past_of}
 use Rattle.relay_filters.proofs.QuietLemmas.{past_goes, quiet_by, quiet_written, told_written}
-use Rattle.relay_filters.proofs.WalkLemmas.{lasts_same, lasts_side}
+use Rattle.relay_filters.proofs.WalkLemmas.{lasts_same, lasts_side, led_none}
 use Rattle.relay_filters.proofs.hooked.HookedDown.write_pending.Goals as goal
 
 pub returns-clause-goes : goal.returns-clause-goes
@@ -26,12 +26,18 @@ returns-clause-lasts g c = (
   lasts_side _ _ _ _ (is_lost c.args.self.now.side.now.stopped) c.args.self.now.session.now.seen
       c.args.self.now.side.now.inner.session c.write_pending-put.new.self.session _
       c.write_pending-put.ensures.lasts,
-  same_names _ _ _,
+  (
+    same_names _ _ _,
+    led_none _ _ _ refl,
+  ),
 )
 
 pub returns-then-is_lost-clause-lasts : goal.returns-then-is_lost-clause-lasts
 returns-then-is_lost-clause-lasts g c = (
   lasts_same _ _ _ _ (is_lost c.args.self.now.side.now.stopped) c.args.self.now.session.now.seen
       c.args.self.now.side.now.inner.session _,
-  same_names _ _ _,
+  (
+    same_names _ _ _,
+    led_none _ _ _ refl,
+  ),
 )

@@ -1,0 +1,1 @@
+-- One delay more is summed, up to the last.
