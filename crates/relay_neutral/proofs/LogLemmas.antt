@@ -2,12 +2,13 @@
 --
 --   neutral_head     the head of the client is as it came
 --   never_fails      no call of it failed
+--   left_all         its filters left what they were given
 --   never_ends       it does not lead to where hooks end a request before its attempts
 use Rattle.std.proofs.Common.{◌≡◌, Bool, true, false, ◌&&◌, ◌||◌, List, [], ◌∷◌, ◌++◌, Option, None, Some, refl, sym, ◌∙◌, subst, inl, inr, true≢false}
 use Rattle.std.specs.Prelude.{All, is_none}
 use Rattle.std.specs.List.{list_all}
 use Rattle.std.proofs.lemmas.Bool.{cases_Bool, or_parts, and_parts}
-use Rattle.std.proofs.lemmas.List.Elements.{All-cons, All-head, All-nil, All-tail}
+use Rattle.std.proofs.lemmas.List.Elements.{All-cons, All-head, All-nil, All-tail, All-weaker}
 use Rattle.relay_tasks.specs.Head.{RequestHead}
 use Rattle.relay_tasks.specs.declared.Error.{Error}
 use Rattle.relay_tasks.specs.declared.hook.Hook.{Hook}
@@ -16,6 +17,8 @@ use Rattle.relay_tasks.specs.declared.log.LogEntry.{LogEntry}
 use Rattle.relay_phases.specs.Order.{Accepts, Move, Station, accepted, first_told, is_answer, is_told, move, moves, next, next_behind, no, yes}
 use Rattle.relay_phases.specs.Order.{Station as station}
 use Rattle.relay_opening.specs.Told.{head_behind}
+use Rattle.relay_hooked.specs.Neutral.{LeavesIt}
+use Rattle.relay_request.specs.Exact.{LeaveAll, is_filter}
 use Rattle.relay_request.specs.Sent.{FailsAt, is_of}
 use Rattle.relay_neutral.specs.Neutral.{IsNeutral}
 
@@ -70,6 +73,13 @@ never_fails {head} which called e fails all =
     ∙ fails.error in
     cc
     )
+
+-- its filters left what they were given, and answered no error
+pub left_all : (head : RequestHead) (called : List LogEntry) → All (IsNeutral head) called
+    → LeaveAll called
+left_all head called all =
+    All-weaker (IsNeutral head) (λ e. is_filter e ≡ true → LeavesIt e)
+    (λ e n is. record { ok = n.passes; same = n.filters is }) called all
 
 -- ---- where they lead
 

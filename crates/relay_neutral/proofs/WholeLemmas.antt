@@ -34,7 +34,7 @@ use Rattle.relay_request.specs.declared.outcome.Outcome.TheVariants.{OutOfMemory
 use Rattle.relay_request.specs.Sent.{Filters, RefusesToSend, Sends, SettlesFramed, asked_in, client_of}
 use Rattle.relay_turns.proofs.SentLemmas.{sends_agrees}
 use Rattle.relay_neutral.specs.Neutral.{CanBeSent, IsNeutral, NeutralIsWhole}
-use Rattle.relay_neutral.proofs.LogLemmas.{before_one, never_ends, never_fails, neutral_head, one_of}
+use Rattle.relay_neutral.proofs.LogLemmas.{before_one, left_all, never_ends, never_fails, neutral_head, one_of}
 
 -- ---- before the attempts
 
@@ -105,6 +105,10 @@ neutral_refuses called head keep e (RefusesToSend.untold fails kept) all can =
     never_fails hook.ConnectedToUpstream called e fails all
 neutral_refuses called head keep e (RefusesToSend.unfiltered fails kept) all can =
     never_fails hook.UpstreamRequestFilter called e fails all
+neutral_refuses called head keep e (RefusesToSend.unpassed (inl fails) kept) all can =
+    never_fails hook.RequestBodyFilter called e fails all
+neutral_refuses called head keep e (RefusesToSend.unpassed (inr fails) kept) all can =
+    never_fails hook.ModuleRequestBody called e fails all
 neutral_refuses called head keep e (RefusesToSend.unsettled filtered f settles kept) all can =
     let ready : f.ready ≡ record head { version = HTTP_11 } =
     readied head f.ready
@@ -152,6 +156,7 @@ module _ {L : Type 0} (state : L → LinkState) (start_at : L → LinkStart) whe
       given_whole processed.history.log run.came processed.outcome run.given
       (run.exact.whole head relayable
       (λ told ahead. neutral_passes t run.passed w told ahead all)
+      (left_all head t.called all)
       (λ keep e refuses. neutral_refuses t.called head keep e refuses all can)
       (λ sent sends. neutral_agrees t.called head sent asks.is_request.framing sends all
       asks.is_request.has.framed)

@@ -15,7 +15,7 @@ use Rattle.relay_links.specs.Link.{LinkState, LinkStart}
 use Rattle.relay_links.specs.declared.Returned.{Returned}
 use Rattle.relay_phases.specs.Order.{is_answer}
 use Rattle.relay_valid.specs.Valid.{AsksFor, AnswersWith}
-use Rattle.relay_request.specs.Exact.{IsFaultless, IsUnfinished}
+use Rattle.relay_request.specs.Exact.{IsFaultless, IsUnfinished, is_filter}
 use Rattle.relay_request.specs.Legs.{behind}
 use Rattle.relay_request.specs.Passed.{Start, World, origin_of}
 use Rattle.relay_request.specs.Relayable.{IsRelayable}
@@ -33,13 +33,14 @@ ends_it e =
     || (is_of hook.ProxyUpstreamFilter e && is_answer false e.output))
 
 -- the call changed nothing of a request with that head: it did not fail, it left the head as it was
--- where it was lent that to be changed, it let the request go on, and of the head that is sent it
--- left what it was given
+-- where it was lent that to be changed, it let the request go on, and of the head that is sent, of
+-- the request's body and of the response it left what it was given
 pub record IsNeutral (head : RequestHead) (e : LogEntry) : Type 0 where
   pub passes : e.error ≡ None
   pub leaves : unwrap_or e.head head ≡ head
   pub goes_on : ends_it e ≡ false
   pub sends : e.hook ≡ hook.UpstreamRequestFilter → e.output ≡ e.input
+  pub filters : is_filter e ≡ true → e.output ≡ e.input
 
 -- so is each call of a default hook, whatever the peer that it names
 abbrev pub DefaultsAreNeutral : Type 0

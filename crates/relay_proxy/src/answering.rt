@@ -44,7 +44,7 @@ pub(crate) fn write_answer<
         (Phase.Answer session owed attempts)
         → AdvancesOn L.state L.start s (world_of D.state client.new faults) own
         result.phase }
-    ensures cause { (faults : ℕ) → HasCause {C = C} L.state L.start
+    ensures cause { (log : List _) (faults : ℕ) → HasCause {C = C} L.state L.start log
         (world_of D.state client.old faults) (world_of D.state client.new faults)
         (Phase.Answer session owed attempts) result.phase result.step }
     ensures work { DoesWork result.step result.work }
@@ -81,7 +81,7 @@ fn write_on<M: HttpModule + Drop, K: Drop, D: ByteLink, U: Drop, L: ByteLink, C:
         (Phase.Answer session owed attempts)
         → AdvancesOn L.state L.start s (world_of D.state client.new faults) own
         result.phase }
-    ensures cause { (faults : ℕ) → HasCause {C = C} L.state L.start
+    ensures cause { (log : List _) (faults : ℕ) → HasCause {C = C} L.state L.start log
         (world_of D.state client.old faults) (world_of D.state client.new faults)
         (Phase.Answer session owed attempts) result.phase result.step }
     ensures work { DoesWork result.step result.work }

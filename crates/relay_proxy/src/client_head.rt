@@ -1,5 +1,5 @@
 //! The client's head: read, judged, and refused where it must be (RFC 9112, sections 2 and 3).
-ghost use Rattle.std.specs.Prelude.{◌≡◌, ◌≤◌, ℕ, [], length, None, false};
+ghost use Rattle.std.specs.Prelude.{◌≡◌, ◌≤◌, ℕ, List, [], length, None, false};
 ghost use Rattle.relay_tasks.specs.Head.{IsStatus};
 ghost use Rattle.relay_h1.specs.Verdict.{IsOpen, HasRequest};
 ghost use Rattle.relay_h1.specs.Wire.{generated};
@@ -43,7 +43,7 @@ pub(crate) fn read_head<SV: ProxyHttp, D: ByteLink, U, L: ByteLink>(
         (allowed_by (SV.allows hooks.now) SV.Modules.allows) (SV.mark_of hooks.now) calls.new
         result.phase }
     ensures called { CountsCalls calls.old calls.new result.work }
-    ensures cause { (faults : ℕ) → HasCause {C = SV.CTX} L.state L.start
+    ensures cause { (log : List _) (faults : ℕ) → HasCause {C = SV.CTX} L.state L.start log
         (world_of D.state client.old faults) (world_of D.state client.new faults)
         (Phase.ReadHead) result.phase result.step }
     ensures work { DoesWork result.step result.work }
@@ -76,7 +76,8 @@ fn await_head<D: ByteLink, U, L: ByteLink, C>(
         → IsOpen client.old.ahead
         → Advances L.state L.start s (world_of D.state client.new faults)
         result.phase }
-    ensures cause { (faults : ℕ) → IsOpen client.old.ahead → HasCause {C = C} L.state L.start
+    ensures cause { (log : List _) (faults : ℕ) → IsOpen client.old.ahead
+        → HasCause {C = C} L.state L.start log
         (world_of D.state client.old faults) (world_of D.state client.new faults)
         (Phase.ReadHead) result.phase result.step }
     ensures work { DoesWork result.step result.work }
@@ -163,7 +164,7 @@ fn take_head<SV: ProxyHttp, D: ByteLink, U, L: ByteLink>(
         (allowed_by (SV.allows hooks.now) SV.Modules.allows) (SV.mark_of hooks.now) calls.new
         result.phase }
     ensures called { CountsCalls calls.old calls.new result.work }
-    ensures cause { (faults : ℕ) → HasCause {C = SV.CTX} L.state L.start
+    ensures cause { (log : List _) (faults : ℕ) → HasCause {C = SV.CTX} L.state L.start log
         (world_of D.state client.old faults) (world_of D.state client.new faults)
         (Phase.ReadHead) result.phase result.step }
     ensures work { DoesWork result.step result.work }
@@ -208,7 +209,7 @@ fn accept_head<SV: ProxyHttp, D: ByteLink, U, L: ByteLink>(
         (allowed_by (SV.allows hooks.now) SV.Modules.allows) (SV.mark_of hooks.now) calls.new
         result.phase }
     ensures called { CountsCalls calls.old calls.new result.work }
-    ensures cause { (faults : ℕ) → HasCause {C = SV.CTX} L.state L.start
+    ensures cause { (log : List _) (faults : ℕ) → HasCause {C = SV.CTX} L.state L.start log
         (world_of D.state client.old faults) (world_of D.state client.new faults)
         (Phase.ReadHead) result.phase result.step }
     ensures work { DoesWork result.step result.work }
@@ -256,7 +257,7 @@ fn give_answer<L: ByteLink, C>(alloc: Global, status: u16, error: Option<Error>)
         → IsTurnedDown w.ahead (generated status) error
         → Advances L.state L.start s w
         result.phase }
-    ensures cause { (w x : World) → HasCause {C = C} L.state L.start w x
+    ensures cause { (log : List _) (w x : World) → HasCause {C = C} L.state L.start log w x
         (Phase.ReadHead) result.phase result.step }
     ensures work { DoesWork result.step result.work }
     ensures uncalled { result.work.called ≡ 0 }

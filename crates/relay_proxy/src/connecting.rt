@@ -115,7 +115,8 @@ pub(crate) fn connect<SV: ProxyHttp, K: Connector>(
         (SV.mark_of app.now) calls.old (Phase.Connect context session tries)
         → CallsSoFar {L = K.Byte} (allowed_by (SV.allows app.now) SV.Modules.allows)
         (SV.mark_of app.now) calls.new result.phase }
-    ensures cause { (client : LinkState) (ahead : List ℕ) → HasCause K.Byte.state K.Byte.start
+    ensures cause { (log : List _) (client : LinkState) (ahead : List ℕ)
+        → HasCause K.Byte.state K.Byte.start log
         (world_with client ahead (K.fault_count connector.old))
         (world_with client ahead (K.fault_count connector.new))
         (Phase.Connect context session tries) result.phase result.step }
@@ -191,7 +192,7 @@ fn tell<SV: ProxyHttp, L: ByteLink>(
         (SV.mark_of app.now) calls.old (Phase.Connect context session (tries_in lease))
         → CallsSoFar {L = L} (allowed_by (SV.allows app.now) SV.Modules.allows)
         (SV.mark_of app.now) calls.new result.phase }
-    ensures cause { (w x : World) → HasCause L.state L.start w x
+    ensures cause { (log : List _) (w x : World) → HasCause L.state L.start log w x
         (Phase.Connect context session (tries_in lease)) result.phase result.step }
     ensures work { DoesWork result.step result.work }
     ensures called { CountsCalls calls.old calls.new result.work }
@@ -253,7 +254,7 @@ fn refused_link<SV: ProxyHttp, L: ByteLink>(
         (Phase.Connect context session lacking.room.items.items)
         → CallsSoFar {L = L} (allowed_by (SV.allows app.now) SV.Modules.allows)
         (SV.mark_of app.now) calls.new result.phase }
-    ensures cause { (w x : World) → HasCause L.state L.start w x
+    ensures cause { (log : List _) (w x : World) → HasCause L.state L.start log w x
         (Phase.Connect context session lacking.room.items.items) result.phase result.step }
     ensures step { (result.step ≡ RunStep.Moved) ⊎ (result.step ≡ RunStep.Ended) }
     ensures over { is_over result.phase ≡ is_end result.step }

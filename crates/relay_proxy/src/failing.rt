@@ -1,6 +1,6 @@
 //! An attempt that failed: the application treats its error; and then another attempt follows, or
 //! the application answers the client for what it made of it (RFC 9110, sections 9.2.2 and 15).
-ghost use Rattle.std.specs.Prelude.{◌≡◌, ◌⊎◌, ◌↔◌, ◌+◌, ◌≤◌, [], ◌∷◌, length, ℕ, None, Some, true, false, IsTrue};
+ghost use Rattle.std.specs.Prelude.{◌≡◌, ◌⊎◌, ◌↔◌, ◌+◌, ◌≤◌, List, [], ◌∷◌, length, ℕ, None, Some, true, false, IsTrue};
 ghost use Rattle.relay_tasks.specs.Error.{may_retry};
 ghost use Rattle.relay_session.specs.Session.{may_begin_again};
 ghost use Rattle.relay_attempt.specs.Passed.{Passed};
@@ -60,8 +60,8 @@ pub(crate) fn fail<SV: ProxyHttp, D: ByteLink, U: Drop, L: ByteLink>(
         (SV.mark_of app.now) calls.old (Phase.Broken context session link lease keep error)
         → CallsSoFar {L = L} (allowed_by (SV.allows app.now) SV.Modules.allows)
         (SV.mark_of app.now) calls.new result.phase }
-    ensures cause { (faults : ℕ) → HasCause L.state L.start (world_of D.state client.old faults)
-        (world_of D.state client.new faults)
+    ensures cause { (log : List _) (faults : ℕ) → HasCause L.state L.start log
+        (world_of D.state client.old faults) (world_of D.state client.new faults)
         (Phase.Broken context session link lease keep error) result.phase result.step }
     ensures work { DoesWork result.step result.work }
     ensures called { CountsCalls calls.old calls.new result.work }
@@ -152,7 +152,7 @@ fn write_ahead<D: ByteLink, U: Drop, L: ByteLink, C: Drop>(
         (Phase.Broken context session link lease keep error)
         → Advances {C = C} L.state L.start s (world_of D.state client.new faults) result.phase }
     ensures comes { WritesAhead context session.value link lease keep error result.phase }
-    ensures cause { (faults : ℕ) → HasCause {C = C} L.state L.start
+    ensures cause { (log : List _) (faults : ℕ) → HasCause {C = C} L.state L.start log
         (world_of D.state client.old faults) (world_of D.state client.new faults)
         (Phase.Broken context session link lease keep error) result.phase result.step }
     ensures work { DoesWork result.step result.work }
@@ -214,7 +214,7 @@ fn repeat<SV: ProxyHttp, L: ByteLink>(
         (SV.mark_of app.now) calls.old (Phase.Broken context session link lease keep error)
         → CallsSoFar {L = L} (allowed_by (SV.allows app.now) SV.Modules.allows)
         (SV.mark_of app.now) calls.new result.phase }
-    ensures cause { (w x : World) → HasCause L.state L.start w x
+    ensures cause { (log : List _) (w x : World) → HasCause L.state L.start log w x
         (Phase.Broken context session link lease keep error) result.phase result.step }
     ensures work { DoesWork result.step result.work }
     ensures called { CountsCalls calls.old calls.new result.work }
@@ -265,7 +265,7 @@ fn treat_broken<SV: ProxyHttp, L: ByteLink>(
         (SV.mark_of app.now) calls.old (Phase.Broken context session link lease keep error)
         → CallsSoFar {L = L} (allowed_by (SV.allows app.now) SV.Modules.allows)
         (SV.mark_of app.now) calls.new result.phase }
-    ensures cause { (w x : World) → HasCause L.state L.start w x
+    ensures cause { (log : List _) (w x : World) → HasCause L.state L.start log w x
         (Phase.Broken context session link lease keep error) result.phase result.step }
     ensures work { DoesWork result.step result.work }
     ensures called { CountsCalls calls.old calls.new result.work }
@@ -328,7 +328,7 @@ fn answer_broken<SV: ProxyHttp, L: ByteLink>(
         (SV.mark_of app.now) calls.old (Phase.Broken context session link lease keep error)
         → CallsSoFar {L = L} (allowed_by (SV.allows app.now) SV.Modules.allows)
         (SV.mark_of app.now) calls.new result.phase }
-    ensures cause { (w x : World) → HasCause L.state L.start w x
+    ensures cause { (log : List _) (w x : World) → HasCause L.state L.start log w x
         (Phase.Broken context session link lease keep error) result.phase result.step }
     ensures work { DoesWork result.step result.work }
     ensures called { CountsCalls calls.old calls.new result.work }

@@ -60,7 +60,8 @@ pub(crate) fn reach<SV: ProxyHttp, K: Connector, P: Purger>(
         (SV.mark_of app.now) calls.old (Phase.Connect context session tries)
         → CallsSoFar {L = K.Byte} (allowed_by (SV.allows app.now) SV.Modules.allows)
         (SV.mark_of app.now) calls.new result.phase }
-    ensures cause { (client : LinkState) (ahead : List ℕ) → HasCause K.Byte.state K.Byte.start
+    ensures cause { (log : List _) (client : LinkState) (ahead : List ℕ)
+        → HasCause K.Byte.state K.Byte.start log
         (world_with client ahead (K.fault_count connector.old))
         (world_with client ahead (K.fault_count connector.new))
         (Phase.Connect context session tries) result.phase result.step }
@@ -115,7 +116,7 @@ fn open<SV: ProxyHttp, L: ByteLink>(
         (SV.mark_of app.now) calls.old (Phase.Connect context session tries)
         → CallsSoFar {L = L} (allowed_by (SV.allows app.now) SV.Modules.allows)
         (SV.mark_of app.now) calls.new result.phase }
-    ensures cause { (w : World) → HasCause L.state L.start w w
+    ensures cause { (log : List _) (w : World) → HasCause L.state L.start log w w
         (Phase.Connect context session tries) result.phase result.step }
     ensures work { DoesWork result.step result.work }
     ensures counts { CountsCall tries result.phase result.work }
@@ -166,7 +167,7 @@ fn answer<SV: ProxyHttp, L: ByteLink>(
         (SV.mark_of app.now) calls.old (Phase.Connect context session tries)
         → CallsSoFar {L = L} (allowed_by (SV.allows app.now) SV.Modules.allows)
         (SV.mark_of app.now) calls.new result.phase }
-    ensures cause { (w : World) → HasCause L.state L.start w w
+    ensures cause { (log : List _) (w : World) → HasCause L.state L.start log w w
         (Phase.Connect context session tries) result.phase result.step }
     ensures work { DoesWork result.step result.work }
     ensures counts { CountsCall tries result.phase result.work }

@@ -1,14 +1,16 @@
 //! The proxy: requests are begun, stepped and ended, or processed in one call.
-ghost use Rattle.std.specs.Prelude.{◌≡◌, ◌⊎◌, ◌+◌, ◌≤◌, ℕ, [], List, length, IsSome, None, Some, true, false};
+ghost use Rattle.std.specs.Prelude.{◌≡◌, ◌⊎◌, ◌+◌, ◌<◌, ◌≤◌, ℕ, [], List, drop, length, IsSome, None, Some, true, false};
 ghost use Rattle.std.specs.Global.{Box};
+ghost use Rattle.relay_tasks.specs.Log.{delays_of};
 ghost use Rattle.relay_links.specs.Count.{Rose};
 ghost use Rattle.relay_links.specs.Link.{LinkState};
 ghost use Rattle.relay_peer.specs.Body.{IsFrontOf};
 ghost use Rattle.relay_attempt.specs.Passed.{Passed};
 ghost use Rattle.relay_request.specs.Bound.{PhaseCounts};
 ghost use Rattle.relay_phases.specs.Order.{Station};
-ghost use Rattle.relay_request.specs.Calls.{CallsLast, CallsSoFar, CountsLast, IsLogged, KeepsValue, allowed_by, is_ending, kept_at, last_of, log_of};
+ghost use Rattle.relay_request.specs.Calls.{CallsLast, CallsSoFar, CountsLast, IsLogged, KeepsValue, allowed_by, is_ending, is_exchanging, kept_at, last_of, log_of};
 ghost use Rattle.relay_links.specs.Count.{up};
+ghost use Rattle.relay_request.specs.Delays.{HandsOver, delays_since};
 ghost use Rattle.relay_request.specs.Passed.{Start, called_to, start_of, nothing};
 ghost use Rattle.relay_request.specs.Phases.{RunSoFar};
 ghost use Rattle.relay_request.specs.Purging.{AsksPurger, HasLost, HasPurged};
@@ -28,7 +30,7 @@ use relay_hooks::ProxyHttp;
 use relay_links::{ByteLink, Connector, Delay, Purger, Schedule, ShutdownWatch};
 use relay_request::{
     Calls, Did, Machine, Outcome, Processed, RunRecord, RunStep, Work, call_last, count_ended,
-    count_turn, kept_of,
+    count_turn, hand_delays, kept_of,
 };
 use relay_tasks::Pause;
 use std::alloc::Global;
@@ -101,6 +103,21 @@ impl<SV: ProxyHttp, K: Connector> RequestMachine<SV, K> {
     {
         self.machine.work = self.machine.work.plus(Work::NONE);
         RunStep::Ended
+    }
+
+    /// How many delays the calls so far asked for.
+    fn delays_asked(&self) -> usize
+        ensures { result ≡ length (delays_of (log_of self.now.calls)) }
+    {
+        self.calls.session.phase_log().delays().len()
+    }
+
+    /// Hands over the delays that were asked for behind the first so many.
+    fn hand_delays<Y: Delay>(&self, handed: usize, delay: &mut Y)
+        ensures { HandsOver (Y.calls delay.old) (Y.total delay.old) (Y.calls delay.new)
+            (Y.total delay.new) (drop handed (delays_of (log_of self.now.calls))) }
+    {
+        hand_delays(self.calls.session.phase_log(), handed, delay);
     }
 
     /// What is answered behind a turn: where it ended the request, and hooks are to be called for
@@ -202,10 +219,13 @@ impl<SV: ProxyHttp, K: Connector, P: Purger> HttpProxy<SV, K, P> {
     /// Takes one turn of a request: one call of the link that it waits for, one verdict on a head,
     /// one call of a hook, one of the connector with that of `connected_to_upstream` behind the
     /// link that it gave, or of `fail_to_connect` where it gave none, one of the purger with that
-    /// of `purge_response_filter` behind its answer, or one branch of the duplex. In the duplex the
-    /// schedule picks the branch; where it names none or one that cannot be taken, the first that
-    /// can is taken. A branch whose link is silent passes the turn on to the next, going round;
-    /// where all are silent the answer is `Waited(Silent)`.
+    /// of `purge_response_filter` behind its answer, or one branch of the duplex. That branch makes
+    /// the calls of filters that its piece or batch wants, and the call in which an exchange begins
+    /// that for what is put again. In the duplex the schedule picks the branch; where it names none
+    /// or one that cannot be taken, the first that can is taken. A branch whose link is silent
+    /// passes the turn on to the next, going round; where all are silent the answer is
+    /// `Waited(Silent)`. The delays that filters asked for are handed over at its end, when nothing
+    /// was written yet that they let pass.
     ///
     /// Once a request that was served has ended, the hooks of its end are called, one a turn, and
     /// the answer is `Ended` behind the last of them.
@@ -239,16 +259,22 @@ impl<SV: ProxyHttp, K: Connector, P: Purger> HttpProxy<SV, K, P> {
             (K.stock self.old.connector) (K.stock self.new.connector)
             (D.state client.old.link) client.old.ahead machine.old.machine.work
             machine.new.machine.work machine.old.machine.phase machine.new.machine.phase }
-        // The log goes on with the call of this step, if it made one: it is allowed where it stood,
-        // and comes in order. The log ends at the mark of the context that is held.
-        ensures calls { CallsSoFar (allowed_by (SV.allows self.old.inner) SV.Modules.allows)
+        // The log goes on with the calls of this step, if it made any: each is allowed where it
+        // stood, and they come in order. The log ends at the mark of the context that is held.
+        ensures calls { (s : Start) (p : Passed) (own : List _)
+            → s.most ≡ self.old.conf.max_retries → s.first ≡ machine.old.machine.first
+            → CallsSoFar (allowed_by (SV.allows self.old.inner) SV.Modules.allows)
             (SV.mark_of self.old.inner) machine.old.calls machine.old.machine.phase
+            → RunSoFar K.Byte.state K.Byte.start (called_to s (log_of machine.old.calls)) p
+            (world_of D.state client.old (K.fault_count self.old.connector)) own
+            machine.old.machine.phase
             → CallsSoFar (allowed_by (SV.allows self.old.inner) SV.Modules.allows)
             (SV.mark_of self.old.inner) machine.new.calls machine.new.machine.phase }
         ensures logs { machine.old.machine.work.called ≤ length (log_of machine.old.calls)
             → machine.new.machine.work.called ≤ length (log_of machine.new.calls) }
-        ensures once { length (log_of machine.new.calls)
-            ≤ 1 + length (log_of machine.old.calls) }
+        // One call at most is made, but where an exchange begins or is under way: those of filters.
+        ensures once { is_exchanging machine.old.machine.phase ≡ false
+            → length (log_of machine.new.calls) ≤ 1 + length (log_of machine.old.calls) }
         ensures front { IsFrontOf (log_of machine.old.calls) (log_of machine.new.calls) }
         // The purger is asked once in the step behind which the log tells of a purge, and then for
         // just that, and in no other; but also in one with which the request ended, where memory
@@ -260,17 +286,22 @@ impl<SV: ProxyHttp, K: Connector, P: Purger> HttpProxy<SV, K, P> {
         // Before there is a link it moved something of the client, or went on to its next phase; in
         // an exchange it asked a link once, or none and it moved a task or brought an end, by the
         // branch that it took. It waits only where a link answered so in this step; and in silence
-        // all that can be done asks a link that is silent on it, and neither link changed.
-        ensures cause { HasCause K.Byte.state K.Byte.start
+        // all that can be done asks a link that is silent on it, and neither link changed. Or it
+        // moved, and hooks were called.
+        ensures cause { HasCause K.Byte.state K.Byte.start (log_of machine.old.calls)
             (world_of D.state client.old (K.fault_count self.old.connector))
             (world_of D.state client.new (K.fault_count self.new.connector))
             machine.old.machine.phase machine.new.machine.phase result
+            ⊎ (((result ≡ RunStep.Moved)
+            × (length (log_of machine.old.calls) < length (log_of machine.new.calls)))
             ⊎ ((is_ending machine.new.machine.phase machine.new.calls.at ≡ true)
-            × (result ≡ RunStep.Moved)) }
+            × (result ≡ RunStep.Moved))) }
         // What was counted of uses rose by one where one of both links was asked, and else not: the
         // link that was held is held still, or it was handed back.
         ensures uses { (s : Start) (p : Passed) (own : List _)
-            → RunSoFar K.Byte.state K.Byte.start s p
+            → CallsSoFar (allowed_by (SV.allows self.old.inner) SV.Modules.allows)
+            (SV.mark_of self.old.inner) machine.old.calls machine.old.machine.phase
+            → RunSoFar K.Byte.state K.Byte.start (called_to s (log_of machine.old.calls)) p
             (world_of D.state client.old (K.fault_count self.old.connector)) own
             machine.old.machine.phase
             → CountsUses machine.old.machine.work.used machine.new.machine.work.used
@@ -280,14 +311,17 @@ impl<SV: ProxyHttp, K: Connector, P: Purger> HttpProxy<SV, K, P> {
             (K.returned self.new.connector)
             (held_state K.Byte.state machine.new.machine.phase)) }
         // In an exchange that moved, a use, a task or an end was counted, by the branch it took; or
-        // it failed, and the client is owed an answer; or it ended, and hooks are called for that.
+        // it failed, and the client is owed an answer; or hooks were called; or it ended, and hooks
+        // are called for that.
         ensures moves { (a : Box _) → machine.old.machine.phase ≡ Phase.Relay a
-            → result ≡ RunStep.Moved → MovesOn K.Byte.state K.Byte.start
+            → result ≡ RunStep.Moved
+            → MovesOn K.Byte.state K.Byte.start (log_of machine.old.calls)
             (world_of D.state client.old (K.fault_count self.old.connector))
             (world_of D.state client.new (K.fault_count self.new.connector))
             machine.old.machine.work machine.new.machine.work a.value.exchange
             machine.new.machine.phase ⊎ (OwesAnswer machine.new.machine.phase
-            ⊎ (is_ending machine.new.machine.phase machine.new.calls.at ≡ true)) }
+            ⊎ ((length (log_of machine.old.calls) < length (log_of machine.new.calls))
+            ⊎ (is_ending machine.new.machine.phase machine.new.calls.at ≡ true))) }
         // A step that moved did some work.
         ensures progress { result ≡ RunStep.Moved
             → Rose (total_work machine.old.machine.work) (total_work machine.new.machine.work) }
@@ -320,20 +354,31 @@ impl<SV: ProxyHttp, K: Connector, P: Purger> HttpProxy<SV, K, P> {
             ≡ all_items K.Byte.start (K.returned self.old.connector)
             (items_held K.Byte.start machine.old.machine.phase) (K.stock self.old.connector) }
         ensures kept { client.new.kept ≡ client.old.kept }
-        // Beside the links and the connector it asks the schedule alone.
-        ensures outside { outside.new ≡ record outside.old { schedule = outside.new.schedule } }
+        // Beside the links and the connector it asks the schedule, and hands over each delay that a
+        // call of this step asked for.
+        ensures outside { outside.new ≡ record outside.old {
+          schedule = outside.new.schedule;
+          delay = outside.new.delay;
+        } }
+        ensures delays { HandsOver (Y.calls outside.old.delay) (Y.total outside.old.delay)
+            (Y.calls outside.new.delay) (Y.total outside.new.delay)
+            (delays_since (log_of machine.old.calls) (log_of machine.new.calls)) }
         ensures same { self.new ≡ record self.old {
           connector = self.new.connector;
           purger = self.new.purger;
         } }
     {
+        let handed = machine.delays_asked();
         if let Some(goes_back) = machine.goes_on_last() {
-            return self.call_last(machine, goes_back);
+            let step = self.call_last(machine, goes_back);
+            machine.hand_delays(handed, &mut outside.delay);
+            return step;
         }
         if machine.is_over() {
             return machine.rest();
         }
         let step = self.advance(machine, client, outside);
+        machine.hand_delays(handed, &mut outside.delay);
         machine.answer(step)
     }
 
@@ -393,16 +438,22 @@ impl<SV: ProxyHttp, K: Connector, P: Purger> HttpProxy<SV, K, P> {
             (K.stock self.old.connector) (K.stock self.new.connector)
             (D.state client.old.link) client.old.ahead machine.old.machine.work
             machine.new.machine.work machine.old.machine.phase machine.new.machine.phase }
-        // The log goes on with the call of this step, if it made one: it is allowed where it stood,
-        // and comes in order. The log ends at the mark of the context that is held.
-        ensures calls { CallsSoFar (allowed_by (SV.allows self.old.inner) SV.Modules.allows)
+        // The log goes on with the calls of this step, if it made any: each is allowed where it
+        // stood, and they come in order. The log ends at the mark of the context that is held.
+        ensures calls { (s : Start) (p : Passed) (own : List _)
+            → s.most ≡ self.old.conf.max_retries → s.first ≡ machine.old.machine.first
+            → CallsSoFar (allowed_by (SV.allows self.old.inner) SV.Modules.allows)
             (SV.mark_of self.old.inner) machine.old.calls machine.old.machine.phase
+            → RunSoFar K.Byte.state K.Byte.start (called_to s (log_of machine.old.calls)) p
+            (world_of D.state client.old (K.fault_count self.old.connector)) own
+            machine.old.machine.phase
             → CallsSoFar (allowed_by (SV.allows self.old.inner) SV.Modules.allows)
             (SV.mark_of self.old.inner) machine.new.calls machine.new.machine.phase }
         ensures logs { machine.old.machine.work.called ≤ length (log_of machine.old.calls)
             → machine.new.machine.work.called ≤ length (log_of machine.new.calls) }
-        ensures once { length (log_of machine.new.calls)
-            ≤ 1 + length (log_of machine.old.calls) }
+        // One call at most is made, but where an exchange begins or is under way: those of filters.
+        ensures once { is_exchanging machine.old.machine.phase ≡ false
+            → length (log_of machine.new.calls) ≤ 1 + length (log_of machine.old.calls) }
         ensures front { IsFrontOf (log_of machine.old.calls) (log_of machine.new.calls) }
         // The purger is asked once in the step behind which the log tells of a purge, and then for
         // just that, and in no other; but also in one with which the request ended, where memory
@@ -414,15 +465,20 @@ impl<SV: ProxyHttp, K: Connector, P: Purger> HttpProxy<SV, K, P> {
         // Before there is a link it moved something of the client, or went on to its next phase; in
         // an exchange it asked a link once, or none and it moved a task or brought an end, by the
         // branch that it took. It waits only where a link answered so in this step; and in silence
-        // all that can be done asks a link that is silent on it, and neither link changed.
-        ensures cause { HasCause K.Byte.state K.Byte.start
+        // all that can be done asks a link that is silent on it, and neither link changed. Or it
+        // moved, and hooks were called.
+        ensures cause { HasCause K.Byte.state K.Byte.start (log_of machine.old.calls)
             (world_of D.state client.old (K.fault_count self.old.connector))
             (world_of D.state client.new (K.fault_count self.new.connector))
-            machine.old.machine.phase machine.new.machine.phase result }
+            machine.old.machine.phase machine.new.machine.phase result
+            ⊎ ((result ≡ RunStep.Moved)
+            × (length (log_of machine.old.calls) < length (log_of machine.new.calls))) }
         // What was counted of uses rose by one where one of both links was asked, and else not: the
         // link that was held is held still, or it was handed back.
         ensures uses { (s : Start) (p : Passed) (own : List _)
-            → RunSoFar K.Byte.state K.Byte.start s p
+            → CallsSoFar (allowed_by (SV.allows self.old.inner) SV.Modules.allows)
+            (SV.mark_of self.old.inner) machine.old.calls machine.old.machine.phase
+            → RunSoFar K.Byte.state K.Byte.start (called_to s (log_of machine.old.calls)) p
             (world_of D.state client.old (K.fault_count self.old.connector)) own
             machine.old.machine.phase
             → CountsUses machine.old.machine.work.used machine.new.machine.work.used
@@ -432,13 +488,15 @@ impl<SV: ProxyHttp, K: Connector, P: Purger> HttpProxy<SV, K, P> {
             (K.returned self.new.connector)
             (held_state K.Byte.state machine.new.machine.phase)) }
         // In an exchange that moved, a use, a task or an end was counted, by the branch it took; or
-        // it failed, and the client is owed an answer.
+        // it failed, and the client is owed an answer; or hooks were called.
         ensures moves { (a : Box _) → machine.old.machine.phase ≡ Phase.Relay a
-            → result ≡ RunStep.Moved → MovesOn K.Byte.state K.Byte.start
+            → result ≡ RunStep.Moved
+            → MovesOn K.Byte.state K.Byte.start (log_of machine.old.calls)
             (world_of D.state client.old (K.fault_count self.old.connector))
             (world_of D.state client.new (K.fault_count self.new.connector))
             machine.old.machine.work machine.new.machine.work a.value.exchange
-            machine.new.machine.phase ⊎ OwesAnswer machine.new.machine.phase }
+            machine.new.machine.phase ⊎ (OwesAnswer machine.new.machine.phase
+            ⊎ (length (log_of machine.old.calls) < length (log_of machine.new.calls))) }
         // A step that moved did some work.
         ensures progress { result ≡ RunStep.Moved
             → Rose (total_work machine.old.machine.work) (total_work machine.new.machine.work) }
@@ -608,8 +666,15 @@ impl<SV: ProxyHttp, K: Connector, P: Purger> HttpProxy<SV, K, P> {
         ensures stock { all_items K.Byte.start (K.returned self.new.connector) []
             (K.stock self.new.connector) ≡ all_items K.Byte.start (K.returned self.old.connector)
             [] (K.stock self.old.connector) }
-        // Beside the links and the connector it asks the schedule alone.
-        ensures outside { outside.new ≡ record outside.old { schedule = outside.new.schedule } }
+        // Beside the links and the connector it asks the schedule, and hands over each delay that
+        // the log tells.
+        ensures outside { outside.new ≡ record outside.old {
+          schedule = outside.new.schedule;
+          delay = outside.new.delay;
+        } }
+        ensures delays { HandsOver (Y.calls outside.old.delay) (Y.total outside.old.delay)
+            (Y.calls outside.new.delay) (Y.total outside.new.delay)
+            (delays_of result.history.log) }
         // A value is kept where `persist_connection_context` was called last, and gave one.
         ensures kept { IsSome client.new.kept → KeepsValue result.history.log }
         // The purger is asked for each purge of which the log tells, and for just that; or once

@@ -1,6 +1,6 @@
 //! A purge: the purger is asked for it, and its answer is owed to the client (RFC 9110, section 15;
 //! RFC 9111, section 4.4).
-ghost use Rattle.std.specs.Prelude.{◌≡◌, ◌⊎◌, [], Some};
+ghost use Rattle.std.specs.Prelude.{◌≡◌, ◌⊎◌, List, [], Some};
 ghost use Rattle.relay_attempt.specs.Passed.{Passed};
 ghost use Rattle.relay_request.specs.Bound.{CountsCall};
 ghost use Rattle.relay_request.specs.Calls.{CallsSoFar, CountsCalls, IsUnended, allowed_by, log_of, purge_at};
@@ -43,7 +43,7 @@ pub(crate) fn purge<SV: ProxyHttp, P: Purger, L: ByteLink>(
         (SV.mark_of app.now) calls.old (Phase.Connect context session tries)
         → CallsSoFar {L = L} (allowed_by (SV.allows app.now) SV.Modules.allows)
         (SV.mark_of app.now) calls.new result.phase }
-    ensures cause { (w : World) → HasCause L.state L.start w w
+    ensures cause { (log : List _) (w : World) → HasCause L.state L.start log w w
         (Phase.Connect context session tries) result.phase result.step }
     ensures work { DoesWork result.step result.work }
     ensures counts { CountsCall tries result.phase result.work }

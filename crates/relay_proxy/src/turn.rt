@@ -1,10 +1,10 @@
 //! One turn of a request, by the phase in which it stands.
-ghost use Rattle.std.specs.Prelude.{◌≡◌, ◌⊎◌, ◌+◌, ◌≤◌, ℕ, List, [], ◌++◌, Some, true, false};
+ghost use Rattle.std.specs.Prelude.{◌≡◌, ◌⊎◌, ◌+◌, ◌<◌, ◌≤◌, ℕ, List, [], ◌++◌, length, Some, true, false};
 ghost use Rattle.std.specs.Global.{Box};
 ghost use Rattle.relay_links.specs.Told.{Gains};
 ghost use Rattle.relay_attempt.specs.Passed.{Passed};
 ghost use Rattle.relay_request.specs.Bound.{PhaseCounts, TurnedCounts};
-ghost use Rattle.relay_request.specs.Calls.{CallsSoFar, CountsCalls, allowed_by, log_of};
+ghost use Rattle.relay_request.specs.Calls.{CallsSoFar, GrowsCalls, allowed_by, is_exchanging, log_of};
 ghost use Rattle.relay_request.specs.Closing.{Rests, TurnOf};
 ghost use Rattle.relay_request.specs.Taken.{Takes, offers_before, offers_of_turn};
 ghost use Rattle.relay_request.specs.Passed.{Start, called_to};
@@ -31,7 +31,8 @@ use std::alloc::Global;
 use std::mem;
 
 /// One turn: one call of one link, of the connector or of a hook, one of the purger with that of a
-/// hook behind it, one verdict on a head, or one branch of the duplex. A request makes `most`
+/// hook behind it, one verdict on a head, or one branch of the duplex, with the calls of filters
+/// that it makes. A request makes `most`
 /// attempts at most, and as it began, `first` calls of the client's link had failed. A phase that
 /// relays is turned where it stands, since it has the most turns.
 pub(crate) fn take_turn<SV: ProxyHttp, K: Connector, P: Purger, D: ByteLink, U: Drop, H: Schedule>(
@@ -54,33 +55,44 @@ pub(crate) fn take_turn<SV: ProxyHttp, K: Connector, P: Purger, D: ByteLink, U: 
         → TurnOf K.Byte.state K.Byte.start (called_to s (log_of calls.new))
         (world_of D.state client.new (K.fault_count connector.new)) own
         phase.old phase.new }
-    ensures calls { CallsSoFar (allowed_by (SV.allows hooks.now) SV.Modules.allows)
-        (SV.mark_of hooks.now) calls.old phase.old
+    ensures calls { (s : Start) (p : Passed) (own : List _) → s.most ≡ most → s.first ≡ first
+        → CallsSoFar (allowed_by (SV.allows hooks.now) SV.Modules.allows) (SV.mark_of hooks.now)
+        calls.old phase.old
+        → RunSoFar {C = SV.CTX} K.Byte.state K.Byte.start (called_to s (log_of calls.old)) p
+        (world_of D.state client.old (K.fault_count connector.old)) own phase.old
         → CallsSoFar (allowed_by (SV.allows hooks.now) SV.Modules.allows) (SV.mark_of hooks.now)
         calls.new phase.new }
-    ensures called { CountsCalls calls.old calls.new result.work }
+    ensures called { GrowsCalls calls.old calls.new result.work }
+    ensures once { is_exchanging phase.old ≡ false
+        → length (log_of calls.new) ≤ 1 + length (log_of calls.old) }
     ensures purger { CallsSoFar (allowed_by (SV.allows hooks.now) SV.Modules.allows)
         (SV.mark_of hooks.now) calls.old phase.old
         → AsksPurger (P.state purger.old) (P.state purger.new) (log_of calls.old)
         (log_of calls.new) phase.new }
     ensures still { is_over phase.old ≡ true → log_of calls.new ≡ log_of calls.old }
-    ensures cause { HasCause K.Byte.state K.Byte.start
+    ensures cause { HasCause K.Byte.state K.Byte.start (log_of calls.old)
         (world_of D.state client.old (K.fault_count connector.old))
         (world_of D.state client.new (K.fault_count connector.new))
-        phase.old phase.new result.step }
+        phase.old phase.new result.step
+        ⊎ ((result.step ≡ RunStep.Moved)
+        × (length (log_of calls.old) < length (log_of calls.new))) }
     ensures hands_on { HandsOn phase.new result.step }
     ensures rests { Rests (world_of D.state client.old (K.fault_count connector.old))
         (world_of D.state client.new (K.fault_count connector.new)) phase.old phase.new
         result.step }
     ensures work { WorksIn phase.old result.step result.work }
     ensures uses { (s : Start) (p : Passed) (own : List _)
-        → RunSoFar {C = SV.CTX} K.Byte.state K.Byte.start s p
+        → CallsSoFar (allowed_by (SV.allows hooks.now) SV.Modules.allows) (SV.mark_of hooks.now)
+        calls.old phase.old
+        → RunSoFar {C = SV.CTX} K.Byte.state K.Byte.start (called_to s (log_of calls.old)) p
         (world_of D.state client.old (K.fault_count connector.old)) own phase.old
         → TurnUses result.work.used (D.state client.old.link) (D.state client.new.link)
         (held_state K.Byte.state phase.old)
         (λ link. held_state K.Byte.state phase.new ≡ Some link) }
     ensures counts { (s : Start) (p : Passed) (own : List _) (n : ℕ)
-        → RunSoFar {C = SV.CTX} K.Byte.state K.Byte.start s p
+        → CallsSoFar (allowed_by (SV.allows hooks.now) SV.Modules.allows) (SV.mark_of hooks.now)
+        calls.old phase.old
+        → RunSoFar {C = SV.CTX} K.Byte.state K.Byte.start (called_to s (log_of calls.old)) p
         (world_of D.state client.old (K.fault_count connector.old)) own phase.old
         → PhaseUses K.Byte.state K.Byte.start n own phase.old
         → TurnCounts K.Byte.state K.Byte.start n (D.state client.old.link)
@@ -96,10 +108,11 @@ pub(crate) fn take_turn<SV: ProxyHttp, K: Connector, P: Purger, D: ByteLink, U: 
         (result.work.ended + ends) (called_to s (log_of calls.new)) (D.state client.new.link)
         client.new.ahead own phase.new }
     ensures moves { (a : Box _) → phase.old ≡ Phase.Relay a → result.step ≡ RunStep.Moved
-        → MovedBy {C = SV.CTX} K.Byte.state K.Byte.start
+        → MovedBy {C = SV.CTX} K.Byte.state K.Byte.start (log_of calls.old)
         (world_of D.state client.old (K.fault_count connector.old))
         (world_of D.state client.new (K.fault_count connector.new)) result.work a.value.exchange
-        phase.new ⊎ OwesAnswer phase.new }
+        phase.new ⊎ (OwesAnswer phase.new
+        ⊎ (length (log_of calls.old) < length (log_of calls.new))) }
     ensures over { is_over phase.new ≡ is_end result.step }
     ensures out { K.out connector.new + links_held K.Byte.state K.Byte.start phase.old
         ≡ K.out connector.old + links_held K.Byte.state K.Byte.start phase.new }
@@ -125,7 +138,7 @@ pub(crate) fn take_turn<SV: ProxyHttp, K: Connector, P: Purger, D: ByteLink, U: 
         (K.stock connector.old) }
 {
     if phase.is_relaying() {
-        return relay(alloc, first, calls, client, schedule, phase);
+        return relay(alloc, hooks, first, calls, client, schedule, phase);
     }
     move_on(alloc, hooks, connector, purger, most, calls, client, phase)
 }
@@ -155,13 +168,15 @@ fn move_on<SV: ProxyHttp, K: Connector, P: Purger, D: ByteLink, U: Drop>(
         (SV.mark_of hooks.now) calls.old phase.old
         → CallsSoFar (allowed_by (SV.allows hooks.now) SV.Modules.allows) (SV.mark_of hooks.now)
         calls.new phase.new }
-    ensures called { CountsCalls calls.old calls.new result.work }
+    ensures called { GrowsCalls calls.old calls.new result.work }
+    ensures once { is_exchanging phase.old ≡ false
+        → length (log_of calls.new) ≤ 1 + length (log_of calls.old) }
     ensures purger { CallsSoFar (allowed_by (SV.allows hooks.now) SV.Modules.allows)
         (SV.mark_of hooks.now) calls.old phase.old
         → AsksPurger (P.state purger.old) (P.state purger.new) (log_of calls.old)
         (log_of calls.new) phase.new }
     ensures still { is_over phase.old ≡ true → log_of calls.new ≡ log_of calls.old }
-    ensures cause { HasCause K.Byte.state K.Byte.start
+    ensures cause { HasCause K.Byte.state K.Byte.start (log_of calls.old)
         (world_of D.state client.old (K.fault_count connector.old))
         (world_of D.state client.new (K.fault_count connector.new))
         phase.old phase.new result.step }
@@ -227,7 +242,9 @@ fn move_on<SV: ProxyHttp, K: Connector, P: Purger, D: ByteLink, U: Drop>(
             phase.go_on(answer_unlinked(hooks, calls, context, session, attempts, error))
         }
         Phase::Prepare(context, session, link, lease) => {
-            phase.go_on(prepare(alloc, hooks, calls, context, session, link, lease))
+            phase.go_on(prepare::<SV, K::Byte, Connection<D, U>>(
+                alloc, hooks, calls, context, session, link, lease,
+            ))
         }
         Phase::Relay(_attempt) => unreachable!(),
         Phase::Broken(context, session, link, lease, keep, error) => {

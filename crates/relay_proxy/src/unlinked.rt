@@ -1,6 +1,6 @@
 //! A request to whose last attempt the connector gave no link: the application answers the client
 //! for its error (RFC 9110, section 15.6.3).
-ghost use Rattle.std.specs.Prelude.{◌≡◌, ◌⊎◌, []};
+ghost use Rattle.std.specs.Prelude.{◌≡◌, ◌⊎◌, List, []};
 ghost use Rattle.relay_attempt.specs.Passed.{Passed};
 ghost use Rattle.relay_request.specs.Bound.{CountsCall};
 ghost use Rattle.relay_request.specs.Calls.{CallsSoFar, CountsCalls, allowed_by, log_of};
@@ -38,7 +38,7 @@ pub(crate) fn answer_unlinked<SV: ProxyHttp, L: ByteLink>(
         (SV.mark_of app.now) calls.old (Phase.Unlinked context session attempts error)
         → CallsSoFar {L = L} (allowed_by (SV.allows app.now) SV.Modules.allows)
         (SV.mark_of app.now) calls.new result.phase }
-    ensures cause { (w x : World) → HasCause L.state L.start w x
+    ensures cause { (log : List _) (w x : World) → HasCause L.state L.start log w x
         (Phase.Unlinked context session attempts error) result.phase result.step }
     ensures work { DoesWork result.step result.work }
     ensures counts { CountsCall attempts result.phase result.work }

@@ -44,7 +44,7 @@ use Rattle.relay_opening.specs.declared.place.Place.TheVariants as place
 use Rattle.relay_trying.specs.Trying as leads
 use Rattle.relay_trying.specs.Trying.{Treats, may_break, may_follow}
 use Rattle.relay_closing.specs.Place.{may_fail}
-use Rattle.relay_request.specs.Calls.{BeginsCalls, BreaksAt, CallsNext, CallsSoFar, CountsCalls, GoesOn, HasBegun, HasCome, IsTreatedBefore, IsBreaking, IsLogged, IsOpening, IsOwing, IsRelayingCalls, IsUncalled, IsUncalledEnd, IsUncalledFor, IsUnended, TakesNext, TellsPeer, is_before, leads_at, log_of, seen_with, station_at, treated_at}
+use Rattle.relay_request.specs.Calls.{BeginsCalls, BreaksAt, CallsNext, CallsSoFar, CountsCalls, GoesOn, HasBegun, HasCome, IsTreatedBefore, IsBreaking, IsLogged, IsOpening, IsOwing, IsSendingCalls, IsUncalled, IsUncalledEnd, IsUncalledFor, IsUnended, TakesNext, TellsPeer, is_before, leads_at, log_of, seen_with, station_at, treated_at}
 use Rattle.relay_request.specs.Closing.{Settles}
 use Rattle.relay_request.specs.Passed.{begins_end}
 use Rattle.relay_request.specs.Sent.{IsTreated, IsUntreated, is_of}
@@ -62,6 +62,7 @@ use Rattle.relay_request.specs.declared.owed.Owed.TheVariants as owing
 use Rattle.relay_request.specs.declared.machine.Phase.TheVariants.{ReadHead, Connect, Unlinked, Prepare, Relay, Broken, Again, Fail, Close, Answer, Ended}
 use Rattle.relay_request.specs.declared.record.AttemptRecord.{AttemptRecord}
 use Rattle.relay_request.specs.declared.work.Work.{Work}
+use Rattle.relay_request.proofs.FilterLemmas.{order_past, unended_past, walks_past}
 use Rattle.relay_request.proofs.TreatLemmas.{treats_last, unended_more, untreated_again}
 
 -- what the modules allow in a turn is allowed by modules
@@ -438,29 +439,20 @@ module _ {C M K : Type 0} (allows : Standing → LogEntry → Type 0) (mark_of :
         unended = subst (λ (x : Calls M K C). IsUnended (log_of x)) (sym same) o.unended;
       }
 
-  -- behind the call with which it goes out the exchange is under way
-  pub relays_more : {L : Type 0} (c d : Calls M K C) (context context' : C)
-      (client left : HttpSession)
-      (tries : List AttemptRecord) (which : Hook) (a : Attempt L C) → d.at ≡ at.Linked
-      → begins_end which ≡ false → a.context ≡ context'
-      → a.exchange.down.session ≡ left
+  -- behind the call with which it goes out the head was filtered
+  pub sending_more : (c d : Calls M K C) (context context' : C) (client left : HttpSession)
+      (tries : List AttemptRecord) (which : Hook) → d.at ≡ at.Linked → begins_end which ≡ false
       → Turns allows which (station_at c.at) station.sent QueuesNothing (seen_with c client)
       (mark_of context) (seen_with d left) (mark_of context')
-      → IsOpening allows mark_of c context client tries → IsRelayingCalls allows mark_of d a
-  relays_more c d context context' client left tries which a linked before same stays turn o =
-      record {
-        first = left;
-        from = o.from;
-        walks = subst (λ (x : C). Walk allows o.from (log_of d)
-            (standing None false (moment (seen_with d left) (mark_of x)))) (sym same)
-            (walks_more c d context context' client left o.from turn.e turn.calls o.walks);
-        order = order_more c d (station_at c.at) station.sent turn.e turn.calls.log turn.order o.order;
-        head = ap (λ (x : HttpSession). head_of x.reading) (sym stays);
-        unanswered = ap (λ (x : Writing). has_head x.place) turn.queued.same ∙ o.unanswered;
-        unended = unended_more (log_of c) (log_of d) turn.e which turn.calls.log turn.hook before
-            o.unended;
-        linked = linked;
-      }
+      → IsOpening allows mark_of c context client tries → IsSendingCalls allows mark_of d context' left
+  sending_more c d context context' client left tries which linked before turn o = record {
+    from = o.from;
+    walks = walks_more c d context context' client left o.from turn.e turn.calls o.walks;
+    order = order_more c d (station_at c.at) station.sent turn.e turn.calls.log turn.order o.order;
+    unended = unended_more (log_of c) (log_of d) turn.e which turn.calls.log turn.hook before
+        o.unended;
+    linked = linked;
+  }
 
   -- the error of an attempt was treated, and is to be answered
   pub treated_breaks : (c d : Calls M K C) (context context' : C) (client left : HttpSession)
@@ -708,33 +700,69 @@ module _ {L C M K : Type 0} (allows : Standing → LogEntry → Type 0) (mark_of
   unopened_calls calls (Ended outcome attempts) none is = uncalled_end allows mark_of calls outcome
       none is
 
-  -- the exchange has begun, for the calls so far, with that context and that session
-  pub begun_exchange : (calls : Calls M K C) (context : C) (session : HttpSession)
-      (next : Phase L C)
-      → BeginsCalls context session next
-      → ((a : Attempt L C) → a.context ≡ context → a.exchange.down.session ≡ session
-      → IsRelayingCalls allows mark_of calls a)
-      → (at : Station) × IsLogged allows (log_of calls) at → CallsSoFar allows mark_of calls next
-  begun_exchange calls context session ReadHead begins relays logged = absurd begins
-  begun_exchange calls context session (Connect other stays tries) begins relays logged =
+  -- an exchange has begun behind the call that filtered its head, or was not begun
+  pub begun_exchange : (old new : Calls M K C) (context : C) (session : HttpSession)
+      (next : Phase L C) → IsSendingCalls allows mark_of old context session
+      → BeginsCalls allows mark_of old session context new next → CallsSoFar allows mark_of new next
+  begun_exchange old new context session ReadHead s begins = absurd begins
+  begun_exchange old new context session (Connect other stays tries) s begins = absurd begins
+  begun_exchange old new context session (Unlinked other stays attempts error) s begins =
       absurd begins
-  begun_exchange calls context session (Unlinked other stays attempts error) begins relays logged =
+  begun_exchange old new context session (Prepare other stays link lease) s begins = absurd begins
+  begun_exchange old new context session (Relay a) s begins =
+      let b = begins.0 in
+      let w = b.enters.walks in
+      record {
+        from = s.from;
+        walks = walks_past allows s.from (log_of old) w.es (log_of new)
+            (standing None false (moment (seen_with old session) (mark_of context)))
+            (standing None false (moment (seen_with new a.value.exchange.down.inner.session)
+            (mark_of a.value.context))) w.log s.walks w.walk;
+        here = b.here;
+        order = order_past (log_of old) w.es (log_of new) station.sent b.here w.log s.order b.order;
+        relays = b.relays;
+        alive = begins.1;
+        unended = unended_past (log_of old) w.es (log_of new) w.log s.unended w.plain;
+        linked = b.enters.stands ∙ s.linked;
+      }
+  begun_exchange old new context session (Broken other stays link lease keep error) s begins =
+      let w = begins.enters.walks in
+      let linked = begins.enters.stands ∙ s.linked in
+      let untreated = ap (λ (x : At K C). treated_at x) linked in
+      record {
+        from = s.from;
+        walks = walks_past allows s.from (log_of old) w.es (log_of new)
+            (standing None false (moment (seen_with old session) (mark_of context)))
+            (standing None false (moment (seen_with new stays.value) (mark_of other))) w.log
+            s.walks w.walk;
+        at = begins.here;
+        order = order_past (log_of old) w.es (log_of new) station.sent begins.here w.log s.order
+            begins.order;
+        breaks = breaks_untreated new.at (log_of new) error begins.here untreated begins.breaks;
+        again = never_again new.at stays.value begins.here untreated;
+        viewed = never_viewed new.at stays.value (log_of new) error untreated;
+        unended = unended_past (log_of old) w.es (log_of new) w.log s.unended w.plain;
+      }
+  begun_exchange old new context session (Again other stays link lease keep error) s begins =
       absurd begins
-  begun_exchange calls context session (Prepare other stays link lease) begins relays logged =
+  begun_exchange old new context session (Fail link lease keep stays error) s begins =
       absurd begins
-  begun_exchange calls context session (Relay a) begins relays logged =
-      relays a.value begins.0 begins.1
-  begun_exchange calls context session (Broken other stays link lease keep error) begins relays
-      logged = absurd begins
-  begun_exchange calls context session (Again other stays link lease keep error) begins relays
-      logged = absurd begins
-  begun_exchange calls context session (Fail link lease keep stays error) begins relays logged =
-      absurd begins
-  begun_exchange calls context session (Close link lease keep outcome) begins relays logged =
-      subst (λ (o : Outcome). HasCome allows mark_of calls o) (sym begins) logged
-  begun_exchange calls context session (Answer stays owed attempts) begins relays logged =
-      absurd begins
-  begun_exchange calls context session (Ended outcome attempts) begins relays logged = absurd begins
+  begun_exchange old new context session (Close link lease keep outcome) s begins =
+      let b = begins.1 in
+      let w = b.walks in
+      subst (λ (o : Outcome). HasCome allows mark_of new o) (sym begins.0) (
+        b.here,
+        record {
+          from = s.from;
+          to = w.to;
+          walks = walks_past allows s.from (log_of old) w.es (log_of new)
+              (standing None false (moment (seen_with old session) (mark_of context))) w.to w.log
+              s.walks w.walk;
+          order = order_past (log_of old) w.es (log_of new) station.sent b.here w.log s.order b.order;
+        },
+      )
+  begun_exchange old new context session (Answer stays owed attempts) s begins = absurd begins
+  begun_exchange old new context session (Ended outcome attempts) s begins = absurd begins
 
   -- the settling of a phase calls no hook
   pub settled_calls : (calls : Calls M K C) (next settled : Phase L C)

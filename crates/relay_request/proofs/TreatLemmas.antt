@@ -10,7 +10,7 @@
 --   filters_on .. refuses_on, sends_on
 --                      what the log told of the head that is sent, behind one treatment more
 --   treats_last        the last call treated that error
-use Rattle.std.proofs.Common.{◌≡◌, Bool, true, false, not, ◌||◌, ◌&&◌, List, [], ◌∷◌, ◌++◌, refl, sym, ap, subst, ◌∙◌, true≢false, append-nil, append_assoc}
+use Rattle.std.proofs.Common.{◌≡◌, Bool, true, false, not, ◌||◌, ◌&&◌, List, [], ◌∷◌, ◌++◌, refl, sym, ap, subst, ◌∙◌, true≢false, append-nil, append_assoc, inl, inr}
 use Rattle.std.proofs.lemmas.List.Folds.{list_any-append}
 use Rattle.std.specs.List.{list_any}
 use Rattle.std.specs.Prelude.{if◌then◌else◌}
@@ -204,7 +204,7 @@ module _ (these those : List LogEntry) (e : LogEntry) (more : those ≡ these ++
         ∙ append_assoc before (x ∷ after) (e ∷ [])
 
     -- those that treat an error alone are so still
-    only_more : (es : List LogEntry) → only_treats es ≡ true → only_treats (es ++ e ∷ []) ≡ true
+    pub only_more : (es : List LogEntry) → only_treats es ≡ true → only_treats (es ++ e ∷ []) ≡ true
     only_more [] only = rw is refl
     only_more (x ∷ es) only = both (is_of hook.ErrorWhileProxy x) only (only_more es)
       where
@@ -262,6 +262,10 @@ module _ (these those : List LogEntry) (e : LogEntry) (more : those ≡ these ++
         RefusesToSend.unfiltered (fails_on hook.UpstreamRequestFilter _ fails) kept
     refuses_on (RefusesToSend.unsettled filtered filters settles kept) =
         RefusesToSend.unsettled filtered (filters_on filters) settles kept
+    refuses_on (RefusesToSend.unpassed (inl fails) kept) =
+        RefusesToSend.unpassed (inl (fails_on hook.RequestBodyFilter _ fails)) kept
+    refuses_on (RefusesToSend.unpassed (inr fails) kept) =
+        RefusesToSend.unpassed (inr (fails_on hook.ModuleRequestBody _ fails)) kept
 
     -- the last call treated that error
     pub treats_last : (raised treated : Error) → e.input ≡ item.Failure raised

@@ -2,6 +2,7 @@
 -- 9110, section 15).
 use Rattle.std.specs.Prelude.{◌≡◌, ℕ, ◌<◌, Bool, List, ◌++◌, length, Option}
 use Rattle.relay_tasks.specs.Head.{RequestHead}
+use Rattle.relay_tasks.specs.declared.Error.{Error}
 use Rattle.relay_tasks.specs.declared.task.HttpTask.{HttpTask}
 use Rattle.relay_session.specs.Asked.{request_of}
 use Rattle.relay_session.specs.TaskWire.{wire}
@@ -9,7 +10,8 @@ use Rattle.relay_session.specs.declared.task_text.Place.TheVariants as place
 use Rattle.relay_session.specs.declared.writing.Outgoing.{Outgoing}
 use Rattle.relay_session.specs.declared.writing.Outgoing.TheVariants as outgoing
 use Rattle.relay_core.specs.Past.{Origin}
-use Rattle.relay_attempt.specs.Order.{IsInOrderWith, queued_in}
+use Rattle.relay_hooked.specs.Calls.{Filtering}
+use Rattle.relay_hooked.specs.Order.{IsInOrderWith}
 use Rattle.relay_attempt.specs.Passed.{Passed}
 
 -- the text of what the application answered an error with, of a request with that head, of which
@@ -18,10 +20,10 @@ abbrev pub answer_to : RequestHead → List HttpTask → List ℕ
 answer_to head answered = (wire (request_of head) place.NoHead answered).text
 
 -- what was queued for the client in an exchange, and then the answer to its error
-abbrev pub owed_text : {cut : Option HttpTask} {o : Origin} {p : Passed} {closed : Bool}
-    → IsInOrderWith cut o p closed → List HttpTask → List ℕ
+abbrev pub owed_text : {refused : Option Error} {f : Filtering} {o : Origin} {p : Passed}
+    {closed : Bool} → IsInOrderWith refused f o p closed → List HttpTask → List ℕ
 owed_text {o = o} order answered =
-    (wire (request_of o.head) place.NoHead (queued_in order ++ answered)).text
+    (wire (request_of o.head) place.NoHead ((order.queued ++ order.closing) ++ answered)).text
 
 -- what passed, when that had been written of it
 abbrev pub past_at : Passed → List ℕ → Passed

@@ -2,11 +2,13 @@
 -- that its links gave, and each end comes once.
 use Rattle.std.specs.Prelude.{◌≡◌, ℕ, ◌+◌, ◌≤◌, List, [], ◌∷◌, length}
 use Rattle.relay_tasks.specs.Head.{RequestHead}
+use Rattle.relay_tasks.specs.declared.log.LogEntry.{LogEntry}
 use Rattle.relay_links.specs.Link.{LinkState, LinkStart}
 use Rattle.relay_links.specs.Told.{Since}
 use Rattle.relay_links.specs.declared.Returned.{Returned}
-use Rattle.relay_attempt.specs.Bound.{HasCounted, most_tasks}
-use Rattle.relay_request.specs.Passed.{Start, origin_of}
+use Rattle.relay_attempt.specs.Bound.{most_tasks}
+use Rattle.relay_hooked.specs.Bound.{HasCounted}
+use Rattle.relay_request.specs.Passed.{Start, origin_at}
 use Rattle.relay_request.specs.Tries.{tries_in}
 use Rattle.relay_request.specs.declared.machine.Attempt.{Attempt}
 use Rattle.relay_request.specs.declared.machine.Lease.{Lease}
@@ -67,10 +69,11 @@ module _ {L C : Type 0} (state : L → LinkState) (start_at : L → LinkStart) w
       (a : Attempt L C) : Type 0 where
     pub head : RequestHead
     pub sent : RequestHead
+    pub began : List LogEntry
     pub of_tasks : ℕ
     pub of_ends : ℕ
-    pub counted : HasCounted state start_at of_tasks of_ends (origin_of s head sent a.lease.reused)
-        client ahead a.exchange
+    pub counted : HasCounted state start_at of_tasks of_ends
+        (origin_at s head sent a.lease.reused began) client ahead s.called a.exchange
     pub tasks_are : tasks ≡ 1 + of_tasks
     pub ends_are : ends ≡ 1 + length (tries_in a.lease) + of_ends
 

@@ -31,6 +31,8 @@ use Rattle.relay_opening.specs.declared.place.End.TheVariants as end
 use Rattle.relay_opening.specs.declared.place.Place.{Place}
 use Rattle.relay_opening.specs.declared.place.Place.TheVariants as place
 use Rattle.relay_peer.specs.Body.{IsFrontOf}
+use Rattle.relay_filters.specs.Hooked.{Walks, WalksOut, is_lost as lost_by}
+use Rattle.relay_hooked.specs.Stations.{Relays}
 use Rattle.relay_trying.specs.Trying.{may_break}
 use Rattle.relay_closing.specs.Closes.{TurnsOn, logged_in, logged_to}
 use Rattle.relay_closing.specs.Place.{begins_at, begun, is_lost, may_begin, may_fail}
@@ -599,16 +601,17 @@ module _ {C M K : Type 0} (allows : Standing → LogEntry → Type 0) (mark_of :
       pub unended : IsUnended (log_of calls)
 
 module _ {L C M K : Type 0} (allows : Standing → LogEntry → Type 0) (mark_of : C → ℕ) where
-  -- the calls so far of an attempt whose exchange is under way: they ended as it began, with a
-  -- session that had the same head, and of which no final head was queued
+  -- the calls so far of an attempt whose exchange is under way: they walk to where its session and
+  -- its context stand, in order up to where messages are relayed, and no hook wanted memory
   pub record IsRelayingCalls (calls : Calls M K C) (a : Attempt L C) : Type 0 where
-    pub first : HttpSession
     pub from : Standing
     pub walks : Walk allows from (log_of calls)
-        (standing None false (moment (seen_with calls first) (mark_of a.context)))
-    pub order : Accepts accepted (log_of calls) sent
-    pub head : head_of first.reading ≡ head_of a.exchange.down.session.reading
-    pub unanswered : has_head first.writing.place ≡ false
+        (standing None false (moment (seen_with calls a.exchange.down.inner.session)
+        (mark_of a.context)))
+    pub here : Station
+    pub order : Accepts accepted (log_of calls) here
+    pub relays : Relays here
+    pub alive : lost_by a.exchange.down.stopped ≡ false
     pub unended : IsUnended (log_of calls)
     pub linked : calls.at ≡ at.Linked
 
@@ -664,36 +667,23 @@ IsUncalled (Answer session owed attempts) = IsUncalledFor owed
 IsUncalled (Ended outcome attempts) = IsUncalledEnd outcome
 
 -- the exchange of an attempt finished: the end of the request begins with its context, and the
--- session has its client again, with the same head
+-- session has its client again
 pub record HasFinished {L C M K : Type 0} (a : Attempt L C) (old new : Calls M K C)
     (outcome : Outcome) : Type 0 where
-  pub client : HttpSession
-  pub head : head_of client.reading ≡ head_of a.exchange.down.session.reading
-  pub calls : new ≡ closed_with (record old { at = at.Closing a.context (begun None) }) client None
+  pub calls : new ≡ closed_with (record old { at = at.Closing a.context (begun None) })
+      a.exchange.down.inner.session None
   pub reuse : Bool
   pub served : outcome ≡ Served None reuse
 
--- a turn of an exchange left that context, and a session with the same head; or the request has
--- ended: its exchange finished, and the session has its client again; or memory was wanted
-abbrev pub KeepsCalls : {L C M K : Type 0} → Attempt L C → Calls M K C → Calls M K C → Phase L C
-    → Type 0
-KeepsCalls a old new ReadHead = ⊥
-KeepsCalls a old new (Connect context session tries) = ⊥
-KeepsCalls a old new (Unlinked context session attempts error) = ⊥
-KeepsCalls a old new (Prepare context session link lease) = ⊥
-KeepsCalls a old new (Relay b) =
-    (new ≡ old) × (b.value.context ≡ a.context)
-    × (head_of b.value.exchange.down.session.reading
-    ≡ head_of a.exchange.down.session.reading)
-KeepsCalls a old new (Broken context session link lease keep error) =
-    (new ≡ old) × (context ≡ a.context)
-    × (head_of session.value.reading ≡ head_of a.exchange.down.session.reading)
-KeepsCalls a old new (Again context session link lease keep error) = ⊥
-KeepsCalls a old new (Fail link lease keep session error) = ⊥
-KeepsCalls a old new (Close link lease keep outcome) =
-    ((new ≡ old) × (outcome ≡ OutOfMemory)) ⊎ HasFinished a old new outcome
-KeepsCalls a old new (Answer session owed attempts) = ⊥
-KeepsCalls a old new (Ended outcome attempts) = ⊥
+module _ {C M K : Type 0} (allows : Standing → LogEntry → Type 0) (mark_of : C → ℕ) where
+  -- calls of filters were entered, each allowed: they stand in the log behind those before, and
+  -- lead from that session and that context to these; where the hooks stand has not changed. Where
+  -- a hook wanted memory, before or in between, it is not said where they lead
+  pub record EntersCalls (was_lost lost : Bool) (old : Calls M K C) (client : HttpSession)
+      (context : C) (new : Calls M K C) (client' : HttpSession) (context' : C) : Type 0 where
+    pub walks : Walks allows was_lost lost (seen_with old client) (mark_of context)
+        (seen_with new client') (mark_of context')
+    pub stands : new.at ≡ old.at
 
 -- the client is owed that in that phase, and the session is this one
 abbrev pub OwesIn : {L C : Type 0} → Phase L C → Box HttpSession → Owed → Type 0
@@ -745,20 +735,60 @@ pub data Owing {L C M K : Type 0} (client : HttpSession) (owed : Owed) (old new 
       → new ≡ closed_with old left (error_of came) → Owing client owed old new next
   lost : CameIn next OutOfMemory → log_of new ≡ log_of old → Owing client owed old new next
 
--- an exchange has begun, with that context and that session; or the request has ended
-abbrev pub BeginsCalls : {L C : Type 0} → C → HttpSession → Phase L C → Type 0
-BeginsCalls context session ReadHead = ⊥
-BeginsCalls context session (Connect other stays tries) = ⊥
-BeginsCalls context session (Unlinked other stays attempts error) = ⊥
-BeginsCalls context session (Prepare other stays link lease) = ⊥
-BeginsCalls context session (Relay a) =
-    (a.value.context ≡ context) × (a.value.exchange.down.session ≡ session)
-BeginsCalls context session (Broken other stays link lease keep error) = ⊥
-BeginsCalls context session (Again other stays link lease keep error) = ⊥
-BeginsCalls context session (Fail link lease keep stays error) = ⊥
-BeginsCalls context session (Close link lease keep outcome) = outcome ≡ OutOfMemory
-BeginsCalls context session (Answer stays owed attempts) = ⊥
-BeginsCalls context session (Ended outcome attempts) = ⊥
+module _ {C M K : Type 0} (allows : Standing → LogEntry → Type 0) (mark_of : C → ℕ) where
+  -- the calls so far of an attempt whose head was filtered: they walk to where that session and that
+  -- context stand, and the last of them filtered it
+  pub record IsSendingCalls (calls : Calls M K C) (context : C) (client : HttpSession) : Type 0
+    where
+      pub from : Standing
+      pub walks : Walk allows from (log_of calls)
+          (standing None false (moment (seen_with calls client) (mark_of context)))
+      pub order : Accepts accepted (log_of calls) sent
+      pub unended : IsUnended (log_of calls)
+      pub linked : calls.at ≡ at.Linked
+
+  -- an exchange began by calls of filters, in order up to where messages are relayed
+  pub record BegunBy (old : Calls M K C) (session : HttpSession) (context : C) (new : Calls M K C)
+      (client : HttpSession) (context' : C) : Type 0 where
+    pub enters : EntersCalls allows mark_of false false old session context new client context'
+    pub here : Station
+    pub order : Accepts sent enters.walks.es here
+    pub relays : Relays here
+
+  -- one was not begun for what such calls answered, in order up to where it may be treated
+  pub record UnbegunBy (old : Calls M K C) (session : HttpSession) (context : C) (new : Calls M K C)
+      (client : HttpSession) (context' : C) : Type 0 where
+    pub enters : EntersCalls allows mark_of false false old session context new client context'
+    pub here : Station
+    pub order : Accepts sent enters.walks.es here
+    pub breaks : IsTrue (may_break here)
+
+  -- nor was one for which memory was wanted, behind such calls
+  pub record LostBy (old : Calls M K C) (session : HttpSession) (context : C) (new : Calls M K C)
+      : Type 0 where
+    pub walks : WalksOut allows (seen_with old session) (mark_of context) new.session.seen
+    pub here : Station
+    pub order : Accepts sent walks.es here
+
+module _ {L C M K : Type 0} (allows : Standing → LogEntry → Type 0) (mark_of : C → ℕ) where
+  -- with that session and that context an exchange has begun, or what was to be put first did not
+  -- pass its filter; or the request has ended for want of memory
+  abbrev pub BeginsCalls : Calls M K C → HttpSession → C → Calls M K C → Phase L C → Type 0
+  BeginsCalls old session context new ReadHead = ⊥
+  BeginsCalls old session context new (Connect other stays tries) = ⊥
+  BeginsCalls old session context new (Unlinked other stays attempts error) = ⊥
+  BeginsCalls old session context new (Prepare other stays link lease) = ⊥
+  BeginsCalls old session context new (Relay a) =
+      BegunBy allows mark_of old session context new a.value.exchange.down.inner.session
+      a.value.context × (lost_by a.value.exchange.down.stopped ≡ false)
+  BeginsCalls old session context new (Broken other stays link lease keep error) =
+      UnbegunBy allows mark_of old session context new stays.value other
+  BeginsCalls old session context new (Again other stays link lease keep error) = ⊥
+  BeginsCalls old session context new (Fail link lease keep stays error) = ⊥
+  BeginsCalls old session context new (Close link lease keep outcome) =
+      (outcome ≡ OutOfMemory) × LostBy allows mark_of old session context new
+  BeginsCalls old session context new (Answer stays owed attempts) = ⊥
+  BeginsCalls old session context new (Ended outcome attempts) = ⊥
 
 -- what a failed exchange left: the attempt is broken, with that context and that session; or the
 -- request has ended
@@ -809,12 +839,32 @@ last_of phase here = last_from (goes_back_in phase) here
 abbrev pub is_ending : {L C K X : Type 0} → Phase L C → At K X → Bool
 is_ending phase here = is_some (last_of phase here)
 
--- what a turn counts of calls: the entries that it added to the log, of which there is one at most,
--- behind those that stood there; a call that is out of memory has none
+-- what a turn counts of calls: no more than the entries that it added to the log, behind those that
+-- stood there; a call that is out of memory has none
+pub record GrowsCalls {M K X : Type 0} (old new : Calls M K X) (work : Work) : Type 0 where
+  pub counted : work.called + length (log_of old) ≤ length (log_of new)
+  pub grows : IsFrontOf (log_of old) (log_of new)
+
+-- the same of one that added one at most
 pub record CountsCalls {M K X : Type 0} (old new : Calls M K X) (work : Work) : Type 0 where
   pub counted : work.called + length (log_of old) ≤ length (log_of new)
   pub once : length (log_of new) ≤ 1 + length (log_of old)
   pub grows : IsFrontOf (log_of old) (log_of new)
+
+-- a phase whose turn may enter several calls: those of a piece or of a batch, or with which an
+-- exchange begins
+abbrev pub is_exchanging : {L C : Type 0} → Phase L C → Bool
+is_exchanging ReadHead = false
+is_exchanging (Connect context session tries) = false
+is_exchanging (Unlinked context session attempts error) = false
+is_exchanging (Prepare context session link lease) = true
+is_exchanging (Relay a) = true
+is_exchanging (Broken context session link lease keep error) = false
+is_exchanging (Again context session link lease keep error) = false
+is_exchanging (Fail link lease keep session error) = false
+is_exchanging (Close link lease keep outcome) = false
+is_exchanging (Answer session owed attempts) = false
+is_exchanging (Ended outcome attempts) = false
 
 -- what a turn counts that calls a hook of the end: the call, and nothing else
 pub record CountsLast {L C M K X : Type 0} (old new : Calls M K X) (was now : Machine L C)

@@ -2,21 +2,24 @@
 use Rattle.std.specs.Prelude.{◌≡◌, ◌≢◌, ◌⊎◌, ℕ, Bool, true, false, List, [], ◌∷◌, ◌++◌, length, Option, None, Some}
 use Rattle.relay_tasks.specs.Head.{RequestHead}
 use Rattle.relay_tasks.specs.declared.Error.{Error}
+use Rattle.relay_tasks.specs.declared.log.LogEntry.{LogEntry}
 use Rattle.relay_links.specs.Link.{LinkState, LinkStart}
 use Rattle.relay_links.specs.Told.{more}
 use Rattle.relay_links.specs.declared.Returned.{Returned}
 use Rattle.relay_h1.specs.Verdict.{IsOpen}
 use Rattle.relay_peer.specs.Body.{IsFrontOf}
-use Rattle.relay_attempt.specs.Exchange.{IsUnderWay, SilentIn}
-use Rattle.relay_attempt.specs.Order.{FailsFor, order_of, text_of}
 use Rattle.relay_attempt.specs.Passed.{Passed}
-use Rattle.relay_attempt.specs.declared.h1_exchange.H1Exchange.{H1Exchange}
-use Rattle.relay_attempt.specs.Head.{link_of}
+use Rattle.relay_hooked.specs.Calls.{Filtering}
+use Rattle.relay_hooked.specs.Exchange.{IsUnderWay}
+use Rattle.relay_hooked.specs.Head.{link_of}
+use Rattle.relay_hooked.specs.Order.{FailsFor, order_of, text_of}
+use Rattle.relay_hooked.specs.declared.exchange.HookedExchange.{HookedExchange}
 use Rattle.relay_request.specs.Answer.{past_at}
 use Rattle.relay_request.specs.Sent.{Sends}
 use Rattle.relay_request.specs.Legs.{RepeatsOn}
 use Rattle.relay_request.specs.Bound.{IsWithin, OwnGave, PhaseCounts, most_sides}
-use Rattle.relay_request.specs.Passed.{World, Start, origin_of, asked}
+use Rattle.relay_request.specs.Passed.{World, Start, StandsIn, origin_at, asked}
+use Rattle.relay_request.specs.Relaying.{SilentIn}
 use Rattle.relay_request.specs.Endings.{error_of, IsEnded}
 use Rattle.relay_request.specs.Owed.{IsHalfGiven}
 use Rattle.relay_request.specs.Taken.{offers_for, offers_before}
@@ -154,15 +157,16 @@ Rests w x (Ended outcome attempts) next did =
 module _ {L : Type 0} (state : L → LinkState) (start_at : L → LinkStart) where
   -- an exchange is under way over this link, and all that can be done in it asks a silent link
   pub record IsQuietExchange (s : Start) (p : Passed) (w : World) (link : L) : Type 0 where
-    pub exchange : H1Exchange L
+    pub exchange : HookedExchange L
     pub is_link : link_of exchange ≡ link
     pub head : RequestHead
     pub sent : RequestHead
     pub relayable : IsRelayable head
     pub sends : Sends s.called head sent
-    pub under_way : IsUnderWay state start_at (origin_of s head sent (start_at link).reused) p
-        w.client w.ahead exchange
-    pub silent : SilentIn state start_at w.client exchange
+    pub began : List LogEntry
+    pub under_way : IsUnderWay state start_at
+        (origin_at s head sent (start_at link).reused began) p w.client w.ahead s.called exchange
+    pub silent : SilentIn state w.client exchange
 
   -- an exchange failed over this link, and the client was given a part of what was queued in it
   pub record IsHalfInformed (s : Start) (p : Passed) (w : World) (link : L) : Type 0 where
@@ -172,8 +176,12 @@ module _ {L : Type 0} (state : L → LinkState) (start_at : L → LinkStart) whe
     pub sends : Sends s.called head sent
     pub before : List ℕ
     pub raised : Error
-    pub why : FailsFor (origin_of s head sent (start_at link).reused) (past_at p before) w.client
-        (state link) (start_at link) raised
+    -- by these calls of its filters, behind those
+    pub f : Filtering
+    pub began : List LogEntry
+    pub stands : StandsIn s.called began f.calls
+    pub why : FailsFor f (origin_at s head sent (start_at link).reused began) (past_at p before)
+        w.client (state link) (start_at link) raised
     pub part : IsFrontOf p.written (text_of (order_of why)).text
     pub left : p.written ≢ (text_of (order_of why)).text
 

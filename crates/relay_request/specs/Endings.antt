@@ -12,6 +12,7 @@ use Rattle.relay_tasks.specs.declared.ErrorSource.TheVariants.{Downstream}
 use Rattle.relay_tasks.specs.declared.Fault.{Fault}
 use Rattle.relay_tasks.specs.declared.log.LogEntry.{LogEntry}
 use Rattle.relay_tasks.specs.declared.task.HttpTask.{HttpTask}
+use Rattle.relay_tasks.specs.Task.{is_end}
 use Rattle.relay_links.specs.Count.{Rose}
 use Rattle.relay_links.specs.Link.{LinkState, LinkStart, IsHandedOut, IsReadFault, IsWriteFault}
 use Rattle.relay_links.specs.declared.Returned.{Returned}
@@ -30,17 +31,18 @@ use Rattle.relay_phases.specs.Order.{may_try_again}
 use Rattle.relay_core.specs.Past.{Origin}
 use Rattle.relay_peer.specs.Body.{IsFrontOf, body_of}
 use Rattle.relay_peer.specs.Faults.{IsAmong, IsLast}
-use Rattle.relay_sides.specs.Filtered.{asks_to_close}
-use Rattle.relay_attempt.specs.Order as exchange
-use Rattle.relay_attempt.specs.Order.{EndsEarly, FailsFor, order_of, text_of, IsInOrderWith, IsRelayed, HasEnded, MayServe, SendsShort}
 use Rattle.relay_attempt.specs.Agrees.{Agrees}
 use Rattle.relay_attempt.specs.Passed.{Passed}
 use Rattle.relay_valid.specs.Valid.{IsValid}
+use Rattle.relay_hooked.specs.Calls.{Filtering}
+use Rattle.relay_hooked.specs.Neutral.{AreNeutral}
+use Rattle.relay_hooked.specs.Order as exchange
+use Rattle.relay_hooked.specs.Order.{EndsEarly, FailsFor, order_of, text_of, IsInOrderWith, IsRelayed, Keeps, MayServe, SendsShort}
 use Rattle.relay_request.specs.Ahead.{IsOwedAhead, unrelayed}
 use Rattle.relay_request.specs.Answer.{answer_to, owed_text, past_at}
 use Rattle.relay_request.specs.Named.{IsNamed}
 use Rattle.relay_request.specs.Relayable.{IsAccepted, IsConnect, IsRelayable, NamesUpgrade}
-use Rattle.relay_request.specs.Passed.{World, Start, answered, origin_of, asked, TellsClient, TellsLink, IsUnsent, IsUntouched}
+use Rattle.relay_request.specs.Passed.{World, Start, StandsIn, answered, origin_at, asked, TellsClient, TellsLink, IsUnsent, IsUntouched}
 use Rattle.relay_request.specs.Sent.{Sends, RefusesToSend, IsAnswered, IsTreated, IsUntreated}
 use Rattle.relay_request.specs.Tries.{AreTries, EndsTrying, IsRefusedFor, LosesTry, MayTry, fault_error, made_before}
 use Rattle.relay_request.specs.declared.outcome.Outcome.{Outcome}
@@ -62,13 +64,6 @@ pub data IsTurnedDown (bytes answer : List ℕ) (error : Option Error) : Type 0 
       → HasRequest bytes head framing len → Entered head None → IsConnect head
       → answer ≡ generated 405 → error ≡ None → IsTurnedDown bytes answer error
 
--- a task that was cut is the next of the response, and no end was asked for before it
-abbrev pub IsNext : (cut : Option HttpTask) {o : Origin} {p : Passed} {closed : Bool}
-    → IsInOrderWith cut o p closed → Type 0
-IsNext None order = Unit {0}
-IsNext (Some at) order =
-    (order.closing ≡ []) × IsFrontOf (order.batched ++ at ∷ []) order.read
-
 -- what was sent and what was written, whatever the outcome: nothing; the front of a generated
 -- answer, or of what hooks answered, with nothing sent; those of one exchange, whose request is of
 -- a form that is relayed; or those of one that failed when a part had been written: the front of
@@ -79,10 +74,10 @@ pub data IsInOrder (s : Start) (p : Passed) : Type 0 where
       → IsFrontOf p.written answer → p.sent ≡ [] → IsInOrder s p
   is_ahead : (why : Option Error) (text : List ℕ) → IsOwedAhead s p why text
       → IsFrontOf p.written text → p.sent ≡ [] → IsInOrder s p
-  is_exchange : (cut : Option HttpTask) (head sent : RequestHead) (reused closed : Bool)
-      → IsRelayable head → Sends s.called head sent
-      → (order : IsInOrderWith cut (origin_of s head sent reused) p closed) → IsNext cut order
-      → IsInOrder s p
+  is_exchange : (refused : Option Error) (f : Filtering) (began : List LogEntry)
+      (head sent : RequestHead) (reused closed : Bool) → IsRelayable head
+      → Sends s.called head sent → StandsIn s.called began f.calls
+      → IsInOrderWith refused f (origin_at s head sent reused began) p closed → IsInOrder s p
   is_unlinked : (head : RequestHead) (e : Error) → IsAccepted s p head → IsRefusedFor s.called e
       → IsAnswered s.closed e → IsFrontOf p.written (answer_to head (answered s)) → p.sent ≡ []
       → IsInOrder s p
@@ -90,10 +85,12 @@ pub data IsInOrder (s : Start) (p : Passed) : Type 0 where
       → RefusesToSend s.called head keep raised → IsTreated s.called raised e
       → IsAnswered s.closed e → IsFrontOf p.written (answer_to head (answered s)) → p.sent ≡ [] →
       IsInOrder s p
-  is_failure : (cut : Option HttpTask) (head sent : RequestHead) (reused closed : Bool)
-      (before : List ℕ) (raised e : Error) → IsRelayable head → Sends s.called head sent
-      → (order : IsInOrderWith cut (origin_of s head sent reused) (past_at p before) closed)
-      → IsNext cut order → IsTreated s.called raised e → IsAnswered s.closed e
+  is_failure : (refused : Option Error) (f : Filtering) (began : List LogEntry)
+      (head sent : RequestHead) (reused closed : Bool) (before : List ℕ) (raised e : Error)
+      → IsRelayable head → Sends s.called head sent → StandsIn s.called began f.calls
+      → (order : IsInOrderWith refused f (origin_at s head sent reused began) (past_at p before)
+      closed)
+      → IsTreated s.called raised e → IsAnswered s.closed e
       → IsFrontOf p.written (owed_text order (answered s)) → IsInOrder s p
 
 -- the error of a client that ended inside its head
@@ -281,15 +278,20 @@ EndsUnlinked s p w (Served (Some e) reuse) =
 EndsUnlinked s p w TurnLimit = IsUnsent p
 EndsUnlinked s p w OutOfMemory = IsUnsent p
 
--- a client's connection may serve another request: it speaks HTTP/1.1, neither its head nor that of
--- the response asks to close, and its request has ended with no byte behind it; and no call of its
--- link failed since the request began, when so many had (RFC 9112, section 9.3)
-pub record IsClientReusable
-    (o : Origin) (p : Passed) (closed : Bool) (order : exchange.IsInOrder o p closed)
+-- the request of a client has ended: an end is among what came of it
+abbrev pub HasEnded : {f : Filtering} {o : Origin} {p : Passed} {closed : Bool}
+    → exchange.IsInOrder f o p closed → Type 0
+HasEnded order = list_any is_end order.came ≡ true
+
+-- a client's connection may serve another request: it speaks HTTP/1.1, neither its head nor the
+-- response as it was written closes it, and its request has ended with no byte behind it; and no
+-- call of its link failed since the request began, when so many had (RFC 9112, section 9.3)
+pub record IsClientReusable {f : Filtering}
+    (o : Origin) (p : Passed) (closed : Bool) (order : exchange.IsInOrder f o p closed)
     (first : ℕ) (w : World) : Type 0 where
   pub version : o.head.version ≡ HTTP_11
   pub asks : closes o.head.fields ≡ false
-  pub answers : list_any asks_to_close order.read ≡ false
+  pub answers : (text_of order).closes ≡ false
   pub ended : HasEnded order
   pub nothing_ahead : w.ahead ≡ []
   pub unfailed : ¬ (Rose first w.client.faults)
@@ -302,29 +304,34 @@ pub record IsRelayedWhole
   pub sent : RequestHead
   pub relayable : IsRelayable head
   pub sends : Sends s.called head sent
-  pub relayed : IsRelayed (origin_of s head sent start.reused) p link start
-  -- where both heads agree the request does not end short
-  pub unshort : Agrees head sent
-      → ¬ (SendsShort (origin_of s head sent start.reused) p link.ended relayed.order)
+  -- by these calls of its filters, behind those
+  pub f : Filtering
+  pub began : List LogEntry
+  pub stands : StandsIn s.called began f.calls
+  pub relayed : IsRelayed f (origin_at s head sent start.reused began) p link start
+  -- where both heads agree, and the filters changed nothing, the request does not end short
+  pub unshort : Agrees head sent → AreNeutral f.calls
+      → ¬ (SendsShort (origin_at s head sent start.reused began) relayed.order.taken)
   -- no call of the client's link failed
   pub calm : w.client.faults ≡ s.faults
   -- the link is kept only where it may serve another request
   pub kept : keep ≡ true
-      → MayServe (origin_of s head sent start.reused) p link.ended relayed.order
+      → MayServe (origin_at s head sent start.reused began) p link.ended relayed.order.read
   -- and where no call of it failed
   pub faultless : keep ≡ true → link.faults ≡ start.faults
-  -- and a link that may serve another request is kept, where no call of it failed
-  pub keeps : MayServe (origin_of s head sent start.reused) p link.ended relayed.order
-      → ¬ (Rose start.faults link.faults) → keep ≡ true
+  -- and a link that may serve another request is kept, where no call of it failed and the request
+  -- did not end short
+  pub keeps : Keeps link start relayed.order keep
   -- the client goes back exactly where it may ask for more
   pub goes_back : IsTrue reuse
-      ↔ IsClientReusable (origin_of s head sent start.reused) p link.ended relayed.order s.first w
+      ↔ IsClientReusable (origin_at s head sent start.reused began) p link.ended relayed.order
+      s.first w
   -- a request that has ended is all that was taken from the client's bytes
   pub behind : HasEnded relayed.order
-      → IsWhole (asked s p) (body_of relayed.order.pieces) w.ahead
+      → IsWhole (asked s p) (body_of relayed.order.came) w.ahead
 
--- the response was over towards the client, and relayed so far, before its end was read: hooks made
--- of the client's head one of which a response is framed otherwise. Its link is not kept
+-- the response was over towards the client, and relayed so far, before its end was given to the
+-- filters, as where these made another one of it
 pub record IsRelayedEarly
     (s : Start) (p : Passed) (w : World) (link : LinkState) (start : LinkStart) (keep reuse : Bool)
     : Type 0 where
@@ -332,16 +339,25 @@ pub record IsRelayedEarly
   pub sent : RequestHead
   pub relayable : IsRelayable head
   pub sends : Sends s.called head sent
-  pub early : EndsEarly (origin_of s head sent start.reused) p link start
+  -- by these calls of its filters, behind those
+  pub f : Filtering
+  pub began : List LogEntry
+  pub stands : StandsIn s.called began f.calls
+  pub early : EndsEarly f (origin_at s head sent start.reused began) p link start
   -- no call of the client's link failed
   pub calm : w.client.faults ≡ s.faults
-  pub unkept : keep ≡ false
+  -- the link is kept only where it may serve another request
+  pub kept : keep ≡ true
+      → MayServe (origin_at s head sent start.reused began) p link.ended early.order.read
+  -- and where no call of it failed
+  pub faultless : keep ≡ true → link.faults ≡ start.faults
   -- the client goes back exactly where it may ask for more
   pub goes_back : IsTrue reuse
-      ↔ IsClientReusable (origin_of s head sent start.reused) p link.ended early.order s.first w
+      ↔ IsClientReusable (origin_at s head sent start.reused began) p link.ended early.order
+      s.first w
   -- a request that has ended is all that was taken from the client's bytes
   pub behind : HasEnded early.order
-      → IsWhole (asked s p) (body_of early.order.pieces) w.ahead
+      → IsWhole (asked s p) (body_of early.order.came) w.ahead
 
 -- why no other attempt follows one whose error was treated so in that call: none may, behind so
 -- many; or a final head was queued, or bytes of the body were read that are kept no longer, as the
@@ -364,8 +380,12 @@ pub record HasFailed
   pub raised : Error
   pub treated : IsTreated s.called raised e
   pub told : IsAnswered s.closed e
-  pub why : FailsFor (origin_of s head sent start.reused) (past_at p before) client link start
-      raised
+  -- by these calls of its filters, behind those
+  pub f : Filtering
+  pub began : List LogEntry
+  pub stands : StandsIn s.called began f.calls
+  pub why : FailsFor f (origin_at s head sent start.reused began) (past_at p before) client link
+      start raised
   pub over : IsOver s client treated.e e
 
 -- what was queued for the client in it, and then the answer to its error
@@ -398,13 +418,16 @@ pub data Misses
   ahead_of_it : (refused : IsRefusedAhead s p link start keep e)
       → text ≡ answer_to refused.head (answered s) → Misses s p client link start keep e text
 
--- an attempt failed, for a cause that no valid exchange has, and its client was given what was
--- queued for it and the answer: its link is not kept, and the client does not go back
+-- an attempt failed, for a cause that no valid exchange has whose filters changed nothing, and its
+-- client was given what was queued for it and the answer: its link is not kept, and the client does
+-- not go back
 pub record IsFailedAttempt
     (s : Start) (p : Passed) (w : World) (link : LinkState) (start : LinkStart) (keep reuse : Bool)
     (e : Error) : Type 0 where
   pub failed : HasFailed s p w.client link start e
-  pub invalid : ¬ (IsValid (origin_of s failed.head failed.sent start.reused) p w.client link start)
+  pub invalid : AreNeutral failed.f.calls
+      → ¬ (IsValid (origin_at s failed.head failed.sent start.reused failed.began) p w.client link
+      start)
   pub answered : IsGiven s p w (owed_by failed)
   pub not_kept : keep ≡ false
   pub stays : reuse ≡ false
@@ -425,9 +448,12 @@ pub record IsPartRelayed (s : Start) (p : Passed) (link : LinkState) (start : Li
   pub sent : RequestHead
   pub relayable : IsRelayable head
   pub sends : Sends s.called head sent
-  pub cut : Option HttpTask
-  pub order : IsInOrderWith cut (origin_of s head sent start.reused) p link.ended
-  pub next : IsNext cut order
+  -- by these calls of its filters, behind those
+  pub f : Filtering
+  pub began : List LogEntry
+  pub stands : StandsIn s.called began f.calls
+  pub refused : Option Error
+  pub order : IsInOrderWith refused f (origin_at s head sent start.reused began) p link.ended
 
 -- the same of an attempt that failed with that error: a part of what the client is owed
 pub record IsPartAnswered

@@ -1,10 +1,12 @@
 -- Causes the other way round: where a cause stands, the request has that outcome.
-use Rattle.std.specs.Prelude.{◌≡◌, ◌⊎◌, ℕ, Bool, true, false, List, [], ◌∷◌, Option, Some, None}
+use Rattle.std.specs.Prelude.{◌≡◌, ◌⊎◌, ◌||◌, ℕ, All, Bool, true, false, List, [], ◌∷◌, Option, Some, None}
 use Rattle.relay_tasks.specs.Head.{RequestHead}
 use Rattle.relay_tasks.specs.declared.Error.{Error}
+use Rattle.relay_tasks.specs.declared.log.LogEntry.{LogEntry}
 use Rattle.relay_links.specs.Count.{Rose}
 use Rattle.relay_links.specs.Link.{LinkState, LinkStart}
 use Rattle.relay_links.specs.declared.Returned.{Returned}
+use Rattle.relay_calls.specs.Log.{filters_request, filters_response, is_module_response}
 use Rattle.relay_attempt.specs.Agrees.{Agrees, AsksAlike}
 use Rattle.relay_attempt.specs.Passed.{Passed}
 use Rattle.relay_valid.specs.Unfit.{IsUnfit}
@@ -12,6 +14,7 @@ use Rattle.relay_valid.specs.Valid.{AsksFor, AnswersWith}
 use Rattle.relay_request.specs.Relayable.{IsAccepted, IsRelayable}
 use Rattle.relay_request.specs.Passed.{World, Start, origin_of, asked}
 use Rattle.relay_request.specs.Sent.{Sends, RefusesToSend}
+use Rattle.relay_hooked.specs.Neutral.{LeavesIt}
 use Rattle.relay_request.specs.Endings.{EndsAhead, IsTurnedDown, IsLeftAlone}
 use Rattle.relay_request.specs.declared.outcome.Outcome.{Outcome}
 use Rattle.relay_request.specs.declared.outcome.Outcome.TheVariants.{NoRequest, Refused, Served, TurnLimit, OutOfMemory}
@@ -36,6 +39,15 @@ pub record IsLeft (s : Start) (p : Passed) (w : World) (outcome : Outcome) : Typ
 -- the hooks before the attempts did not end the request: none of them answered or stopped it
 abbrev pub PassesHooks : Start → Passed → World → Type 0
 PassesHooks s p w = (told : Option Error) → ¬ (EndsAhead s p w told)
+
+-- a call of a filter of the request's body or of the response
+abbrev pub is_filter : LogEntry → Bool
+is_filter e =
+    filters_request e.hook || (filters_response e.hook || is_module_response e.hook)
+
+-- the filters of these calls changed nothing: each left what it was given, and answered no error
+abbrev pub LeaveAll : List LogEntry → Type 0
+LeaveAll called = All (λ e. is_filter e ≡ true → LeavesIt e) called
 
 -- the attempt failed; the error has its cause by the outcome's own clause
 abbrev pub IsMissed : Outcome → Type 0
@@ -65,15 +77,17 @@ module _ {L : Type 0} (state : L → LinkState) (start_at : L → LinkStart) whe
     pub not_relayed : (e : Error) → IsLeftAlone s p w e
         → IsUnfinished outcome ⊎ IsLeft s p w outcome
     -- the response is broken, cut off, or switches protocols, whatever head is sent of the
-    -- client's, which is a HEAD exactly where that is one
+    -- client's, which is a HEAD exactly where that is one; and the filters changed nothing
     pub unfit : (r : Returned L) (head : RequestHead) → own ≡ r ∷ [] → IsAccepted s p head
+        → LeaveAll s.called
         → ((sent : RequestHead) → Sends s.called head sent → AsksAlike head sent)
         → ((sent : RequestHead) → Sends s.called head sent
         → IsUnfit sent.method false p.got (state r.link).ended)
         → IsUnfinished outcome ⊎ IsMissed outcome
     -- a valid request of a form that is relayed, which hooks let pass, and of which a head can be
-    -- sent that agrees with it; and a valid response to whatever head is sent of it, with no fault
-    pub whole : (head : RequestHead) → IsRelayable head → PassesHooks s p w
+    -- sent that agrees with it; and a valid response to whatever head is sent of it, with no fault;
+    -- and the filters changed nothing
+    pub whole : (head : RequestHead) → IsRelayable head → PassesHooks s p w → LeaveAll s.called
         → ((keep : Bool) (e : Error) → ¬ (RefusesToSend s.called head keep e))
         → ((sent : RequestHead) → Sends s.called head sent → Agrees head sent)
         → AsksFor (origin_of s head head false) p w.client

@@ -17,13 +17,14 @@ use Rattle.relay_session.specs.Reading.{head_of}
 use Rattle.relay_session.specs.Response.{has_head}
 use Rattle.relay_session.specs.declared.session.HttpSession.{HttpSession}
 use Rattle.relay_sides.specs.Client.{BeginsBehind}
-use Rattle.relay_attempt.specs.Order.{FailsFor, order_of, text_of}
+use Rattle.relay_hooked.specs.Calls.{Filtering}
+use Rattle.relay_hooked.specs.Order.{FailsFor, order_of, text_of}
 use Rattle.relay_attempt.specs.Passed.{Passed}
 use Rattle.relay_request.specs.Bound.{IsWithin, LinkGave, sides_before}
 use Rattle.relay_request.specs.Endings.{IsRecordOf}
 use Rattle.relay_request.specs.Named.{IsNamed}
 use Rattle.relay_request.specs.Answer.{past_at}
-use Rattle.relay_request.specs.Passed.{World, Start, based, opened_to, origin_of, IsUnsent, IsUntouched, TellsClient, TellsLink}
+use Rattle.relay_request.specs.Passed.{World, Start, StandsIn, based, opened_to, origin_at, origin_of, IsUnsent, IsUntouched, TellsClient, TellsLink}
 use Rattle.relay_request.specs.Phases.{IsLeased}
 use Rattle.relay_request.specs.Refusals.{faults_told}
 use Rattle.relay_request.specs.Relayable.{IsAccepted, IsRelayable}
@@ -42,8 +43,9 @@ pub data FailsAgain (s : Start) (p : Passed) (client link : LinkState) (start : 
     (keep : Bool) (e : Error) : Type 0 where
   in_exchange : (head sent : RequestHead) (raised : Error) → IsRelayable head
       → Sends s.called head sent → IsTreated s.called raised e → (before : List ℕ)
-      → (why : FailsFor (origin_of s head sent start.reused) (past_at p before) client link start
-      raised)
+      (f : Filtering) (began : List LogEntry) → StandsIn s.called began f.calls
+      → (why : FailsFor f (origin_at s head sent start.reused began) (past_at p before) client link
+      start raised)
       → has_head (text_of (order_of why)).place ≡ false
       → p.written ≡ (text_of (order_of why)).text → keep ≡ false
       → FailsAgain s p client link start keep e

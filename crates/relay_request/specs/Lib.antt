@@ -18,6 +18,7 @@ pub mod Bound
 pub mod Turn
 pub mod Legs
 pub mod Closing
+pub mod Delays
 pub mod Exact
 pub mod Refusals
 pub mod Relaying

@@ -1,5 +1,5 @@
 -- What passed between the outside and one request since it began.
-use Rattle.std.specs.Prelude.{◌≡◌, ℕ, Bool, false, ◌||◌, ◌≤◌, List, [], ◌∷◌, ◌++◌, if◌then◌else◌}
+use Rattle.std.specs.Prelude.{◌≡◌, ℕ, Bool, true, false, ◌||◌, ◌≤◌, List, [], ◌∷◌, ◌++◌, if◌then◌else◌}
 use Rattle.relay_tasks.specs.Head.{RequestHead}
 use Rattle.relay_tasks.specs.Hooks.{same_hook}
 use Rattle.relay_tasks.specs.declared.hook.Hook.{Hook}
@@ -9,10 +9,12 @@ use Rattle.relay_tasks.specs.declared.task.HttpTask.{HttpTask}
 use Rattle.relay_links.specs.Link.{LinkState, LinkStart}
 use Rattle.relay_links.specs.Told.{Since, told_length}
 use Rattle.relay_h1.specs.Verdict.{IsOpen}
+use Rattle.relay_phases.specs.Order.{Accepts, accepted, sent as filtered}
 use Rattle.relay_phases.specs.Turns.{wrote_in}
 use Rattle.relay_core.specs.Past.{Origin}
 use Rattle.relay_peer.specs.Faults.{TellsSince}
 use Rattle.relay_attempt.specs.Passed.{Passed}
+use Rattle.relay_request.specs.Sent.{ends_at, only_treats}
 use Rattle.relay_request.specs.declared.record.AttemptRecord.{AttemptRecord}
 
 -- the outside as one request sees it: the client's link, the bytes that were read ahead from it,
@@ -113,6 +115,23 @@ origin_of s head sent reused = record {
   write_faults = s.write_faults;
   called = [];
 }
+
+-- the same of an exchange that began behind those calls
+abbrev pub origin_at : Start → RequestHead → RequestHead → Bool → List LogEntry → Origin
+origin_at s head sent reused began = record (origin_of s head sent reused) { called = began }
+
+-- the head that is sent was filtered: these calls are in order, and the last is one of its filter
+pub record HasFiltered (called : List LogEntry) : Type 0 where
+  pub order : Accepts accepted called filtered
+  pub last : ends_at hook.UpstreamRequestFilter called ≡ true
+
+-- the calls of an exchange stand in the log of its request: right behind the filter of the head that
+-- is sent, and before none but those in which the exchange's error was treated
+pub record StandsIn (called began calls : List LogEntry) : Type 0 where
+  pub at_sent : HasFiltered began
+  pub after : List LogEntry
+  pub called_are : called ≡ began ++ (calls ++ after)
+  pub treats : only_treats after ≡ true
 
 -- nothing passed yet
 abbrev pub nothing : Passed

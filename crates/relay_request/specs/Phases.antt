@@ -1,8 +1,9 @@
 -- The phases of a request: what has passed when it stands in each of them, and what is left to do.
-use Rattle.std.specs.Prelude.{◌≡◌, ◌≢◌, ◌==◌, ◌&&◌, not, Bool, false, true, ℕ, List, [], ◌∷◌, length, Some}
+use Rattle.std.specs.Prelude.{◌≡◌, ◌≢◌, ◌==◌, ◌&&◌, not, Bool, false, true, ℕ, List, [], ◌∷◌, ◌++◌, length, Some}
 use Rattle.relay_tasks.specs.Head.{RequestHead}
 use Rattle.relay_tasks.specs.declared.Error.{Error}
 use Rattle.relay_tasks.specs.declared.Fault.{Fault}
+use Rattle.relay_tasks.specs.declared.log.LogEntry.{LogEntry}
 use Rattle.relay_links.specs.Link.{LinkState, LinkStart, IsHandedOut}
 use Rattle.relay_links.specs.declared.Returned.{Returned}
 use Rattle.relay_opening.specs.Told.{head_behind}
@@ -15,12 +16,13 @@ use Rattle.relay_session.specs.Session.{may_begin_again}
 use Rattle.relay_session.specs.declared.session.HttpSession.{HttpSession}
 use Rattle.relay_session.specs.declared.writing.Outgoing.TheVariants as outgoing
 use Rattle.relay_sides.specs.Client.{BeginsBehind}
-use Rattle.relay_attempt.specs.Exchange.{IsUnderWay}
-use Rattle.relay_attempt.specs.Order.{FailsFor, order_of, queued_in}
 use Rattle.relay_attempt.specs.Passed.{Passed}
-use Rattle.relay_attempt.specs.Head.{link_of}
+use Rattle.relay_hooked.specs.Calls.{Filtering}
+use Rattle.relay_hooked.specs.Exchange.{IsUnderWay}
+use Rattle.relay_hooked.specs.Head.{link_of}
+use Rattle.relay_hooked.specs.Order.{FailsFor, order_of}
 use Rattle.relay_request.specs.Relayable.{IsAccepted, IsRelayable}
-use Rattle.relay_request.specs.Passed.{World, Start, based, origin_of, asked, TellsClient, TellsLink, IsUnsent, IsUntouched}
+use Rattle.relay_request.specs.Passed.{World, Start, HasFiltered, StandsIn, based, origin_at, origin_of, asked, TellsClient, TellsLink, IsUnsent, IsUntouched}
 use Rattle.relay_request.specs.Sent.{Sends, RefusesToSend}
 use Rattle.relay_request.specs.Answer.{past_at, WaitsOf}
 use Rattle.relay_request.specs.Endings.{FailsToWrite, IsInOrder, IsUnconnected, Misses, error_of, EndsUnlinked, EndsLinked, EndsWith, AttemptsUnlinked}
@@ -107,9 +109,14 @@ pub record LeavesSession (s : Start) (p : Passed) (client : LinkState) (ahead : 
   pub relayable : IsRelayable head
   pub sends : Sends s.called head sent
   pub before : List ℕ
-  pub why : FailsFor (origin_of s head sent start.reused) (past_at p before) client link start e
+  -- by these calls of its filters, behind those
+  pub f : Filtering
+  pub began : List LogEntry
+  pub stands : StandsIn s.called began f.calls
+  pub why : FailsFor f (origin_at s head sent start.reused began) (past_at p before) client link
+      start e
   pub answers : session.writing.request ≡ request_of head
-  pub holds : Holds session.writing (queued_in (order_of why)) p.written
+  pub holds : Holds session.writing ((order_of why).queued ++ (order_of why).closing) p.written
   pub broken : (fault : Fault) → session.writing.output ≡ outgoing.Broken fault
       → FailsToWrite s client
   -- the session has the client's head as hooks left it, and they answered nothing
@@ -158,10 +165,16 @@ module _ {L C : Type 0} (state : L → LinkState) (start_at : L → LinkStart) w
     pub sent : RequestHead
     pub relayable : IsRelayable head
     pub sends : Sends s.called head sent
-    pub under_way : IsUnderWay state start_at (origin_of s head sent a.lease.reused) p w.client
-        w.ahead a.exchange
+    -- its exchange began behind these calls, the last of which filtered the head that is sent; and
+    -- all that were made since are those of its filters
+    pub began : List LogEntry
+    pub at_sent : HasFiltered began
+    pub under_way : IsUnderWay state start_at (origin_at s head sent a.lease.reused began) p
+        w.client w.ahead s.called a.exchange
+    -- its request had not ended before its first piece
+    pub at_first : a.exchange.down.at_first ≡ false
     -- its session has the client's head as hooks left it, and they answered nothing
-    pub is_left : head_of a.exchange.down.session.reading
+    pub is_left : head_of a.exchange.down.inner.session.reading
         ≡ Some (head_behind head s.called)
     pub quiet : wrote_in s.called ≡ []
 

@@ -1,20 +1,21 @@
 -- A turn of a phase that relays, where it stands.
-use Rattle.std.specs.Prelude.{◌≡◌, ℕ, Bool, true, false, List}
+use Rattle.std.specs.Prelude.{◌≡◌, ℕ, Bool, true, false, List, []}
 use Rattle.std.specs.Box.{with_value}
 use Rattle.std.specs.Global.{Box}
+use Rattle.relay_tasks.specs.declared.log.LogEntry.{LogEntry}
 use Rattle.relay_tasks.specs.declared.took.Pause.TheVariants.{NotReady, Silent}
 use Rattle.relay_links.specs.Link.{LinkState, LinkStart}
-use Rattle.relay_session.specs.Reading.{head_of}
 use Rattle.relay_core.specs.Asked.{WaitRose}
 use Rattle.relay_core.specs.Causes.{says_failed}
 use Rattle.relay_core.specs.Past.{Origin}
 use Rattle.relay_core.specs.declared.step.Step.TheVariants as step
 use Rattle.relay_exchange.specs.declared.exchange.Turn.{Turn}
-use Rattle.relay_attempt.specs.Bound.{CountsOn, HasCounted}
-use Rattle.relay_attempt.specs.Exchange.{IsUnderWay, Turns, MeetsSilence, Asks, HasMoved}
-use Rattle.relay_attempt.specs.Head.{link_of}
+use Rattle.relay_exchange.specs.Exchange as over
 use Rattle.relay_attempt.specs.Passed.{Passed}
-use Rattle.relay_attempt.specs.declared.h1_exchange.H1Exchange.{H1Exchange}
+use Rattle.relay_hooked.specs.Bound.{CountsOn, HasCounted}
+use Rattle.relay_hooked.specs.Exchange.{IsUnderWay, Turns, MeetsSilence, Asks, HasMoved}
+use Rattle.relay_hooked.specs.Head.{core_in, link_of}
+use Rattle.relay_hooked.specs.declared.exchange.HookedExchange.{HookedExchange}
 use Rattle.relay_request.specs.Uses.{Measured}
 use Rattle.relay_request.specs.declared.machine.Attempt.{Attempt}
 use Rattle.relay_request.specs.declared.machine.Phase.{Phase}
@@ -48,42 +49,48 @@ is_closing (Close link lease keep outcome) = true
 is_closing (Answer session owed attempts) = false
 is_closing (Ended outcome attempts) = false
 
--- an attempt where it stands, once its exchange has come to that
-abbrev pub turned : {L C : Type 0} → Box (Attempt L C) → H1Exchange L → Box (Attempt L C)
-turned a x =
-    with_value a (record { exchange = x; lease = a.value.lease; context = a.value.context })
+-- an attempt where it stands, once its exchange and its context have come to these
+abbrev pub turned : {L C : Type 0} → Box (Attempt L C) → HookedExchange L → C → Box (Attempt L C)
+turned a x context =
+    with_value a (record { exchange = x; lease = a.value.lease; context = context })
+
+-- all that can be done in an exchange asks a link that is silent on it: the write of the head, or
+-- each branch that can be taken. No call that was made matters to that
+abbrev pub SilentIn : {L : Type 0} → (L → LinkState) → LinkState → HookedExchange L → Type 0
+SilentIn state client x =
+    over.SilentIn x.exchange.stage (core_in [] x) client (state (link_of x))
 
 module _ {L : Type 0} (state : L → LinkState) (start_at : L → LinkStart) where
   -- one turn of an exchange, between these states of the client's link and these bytes that were
-  -- read ahead from it, and whether a count of uses rose in it
+  -- read ahead from it, and between these logs, and whether a count of uses rose in it
   pub record TurnsOver
-      (before after : LinkState) (ahead left : List ℕ) (x y : H1Exchange L) (did : Turn)
-      (asked : Bool) : Type 0 where
-    pub goes : (s : Origin) (p : Passed) → IsUnderWay state start_at s p before ahead x
-        → Turns state start_at s after left y did.step
+      (before after : LinkState) (ahead left : List ℕ) (log log' : List LogEntry)
+      (x y : HookedExchange L) (did : Turn) (asked : Bool) : Type 0 where
+    pub goes : (s : Origin) (p : Passed) → IsUnderWay state start_at s p before ahead log x
+        → Turns state start_at s after left log' y did.step
     pub waits : did.step ≡ step.Waited NotReady
         → WaitRose before after (state (link_of x)) (state (link_of y))
-    pub quiet : did.step ≡ step.Waited Silent → MeetsSilence state start_at before after x y
-    pub asks : Asks state start_at did.step before after x y
-    pub moves : (s : Origin) (p : Passed) → IsUnderWay state start_at s p before ahead x
-        → did.step ≡ step.Moved → HasMoved state start_at did.branch before after x y
+    pub quiet : did.step ≡ step.Waited Silent → MeetsSilence state before after log' x y
+    pub asks : Asks state did.step before after x y
+    pub moves : (s : Origin) (p : Passed) → IsUnderWay state start_at s p before ahead log x
+        → did.step ≡ step.Moved → HasMoved state did.branch before after log log' x y
     pub counts : (s : Origin) (tasks ends : ℕ)
-        → HasCounted state start_at tasks ends s before ahead x
-        → CountsOn state start_at tasks ends s after left x y did.step
+        → HasCounted state start_at tasks ends s before ahead log x
+        → CountsOn state start_at tasks ends s after left log log' x y did.step
     pub calm : says_failed did.step ≡ false → after.faults ≡ before.faults
     pub same_start : start_at (link_of y) ≡ start_at (link_of x)
-    pub same_head : head_of y.down.session.reading
-        ≡ head_of x.down.session.reading
+    pub same_first : y.down.at_first ≡ x.down.at_first
     pub measured : Measured before after (state (link_of x)) (state (link_of y)) asked
 
 module _ {L C : Type 0} (state : L → LinkState) (start_at : L → LinkStart) where
   -- a phase relayed, and relays behind one turn of its exchange
   pub record TurnsWithin
-      (before after : LinkState) (ahead left : List ℕ) (phase next : Phase L C) (did : Turn)
-      (asked : Bool) : Type 0 where
+      (before after : LinkState) (ahead left : List ℕ) (log log' : List LogEntry)
+      (phase next : Phase L C) (did : Turn) (asked : Bool) : Type 0 where
     pub attempt : Box (Attempt L C)
     pub was : phase ≡ Relay attempt
-    pub exchange : H1Exchange L
-    pub stands : next ≡ Relay (turned attempt exchange)
-    pub turns : TurnsOver state start_at before after ahead left attempt.value.exchange exchange
-        did asked
+    pub exchange : HookedExchange L
+    pub context : C
+    pub stands : next ≡ Relay (turned attempt exchange context)
+    pub turns : TurnsOver state start_at before after ahead left log log' attempt.value.exchange
+        exchange did asked

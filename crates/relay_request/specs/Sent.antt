@@ -62,6 +62,12 @@ SettlesFramed client asked filtered (Err e) =
 abbrev pub is_of : Hook → LogEntry → Bool
 is_of which e = same_hook which e.hook
 
+-- the last of these calls is one of that hook
+abbrev pub ends_at : Hook → List LogEntry → Bool
+ends_at which [] = false
+ends_at which (e ∷ []) = is_of which e
+ends_at which (e ∷ f ∷ es) = ends_at which (f ∷ es)
+
 -- these are calls alone in which the error of an attempt was treated
 abbrev pub only_treats : List LogEntry → Bool
 only_treats [] = true
@@ -139,7 +145,8 @@ pub record FailsAt (which : Hook) (called : List LogEntry) (e : Error) : Type 0 
   pub error : last.error ≡ Some e
 
 -- why an attempt that has a link sends no head, and whether that link is kept: the application
--- failed as it was told of the link; the filter failed; or what it left is refused
+-- failed as it was told of the link; the filter failed; what it left is refused; or what was kept of
+-- the body did not pass one of its filters, the application's or the modules'
 pub data RefusesToSend (called : List LogEntry) (head : RequestHead) (keep : Bool) (e : Error)
     : Type 0 where
   untold : FailsAt hook.ConnectedToUpstream called e → keep ≡ false
@@ -149,3 +156,5 @@ pub data RefusesToSend (called : List LogEntry) (head : RequestHead) (keep : Boo
   unsettled : (filtered : RequestHead) → (filters : Filters called head filtered)
       → SettlesFramed (client_of head) (asked_in filters) filtered (Err e) → keep ≡ true
       → RefusesToSend called head keep e
+  unpassed : FailsAt hook.RequestBodyFilter called e ⊎ FailsAt hook.ModuleRequestBody called e
+      → keep ≡ true → RefusesToSend called head keep e

@@ -4,7 +4,7 @@ use Rattle.std.specs.Prelude.{List, [], ◌∷◌, ◌++◌, map, Option, Some, 
 use Rattle.relay_links.specs.Connector.{Offer, links_of}
 use Rattle.relay_links.specs.Link.{LinkStart, LinkItems}
 use Rattle.relay_links.specs.declared.Returned.{Returned}
-use Rattle.relay_attempt.specs.Head.{link_of}
+use Rattle.relay_hooked.specs.Head.{link_of}
 use Rattle.relay_request.specs.declared.machine.Phase.{Phase}
 use Rattle.relay_request.specs.declared.machine.Phase.TheVariants.{ReadHead, Connect, Unlinked, Prepare, Relay, Broken, Again, Fail, Close, Answer, Ended}
 

@@ -1,6 +1,7 @@
 -- What one turn makes of a phase.
 use Rattle.std.specs.Global.{Box}
 use Rattle.std.specs.Prelude.{◌≡◌, ◌⊎◌, ℕ, ◌<◌, Bool, true, false, List, [], ◌∷◌, ◌++◌, length, Option, None, Some}
+use Rattle.relay_tasks.specs.declared.log.LogEntry.{LogEntry}
 use Rattle.relay_links.specs.Count.{up}
 use Rattle.relay_links.specs.Link.{LinkState, LinkStart, GivesBytes, TakesBytes}
 use Rattle.relay_links.specs.declared.branch.Branch.{Branch}
@@ -10,12 +11,11 @@ use Rattle.relay_h1.specs.Verdict.{IsOpen}
 use Rattle.relay_h1.specs.declared.Connection.{Connection}
 use Rattle.relay_session.specs.Response.{pending}
 use Rattle.relay_session.specs.declared.session.HttpSession.{HttpSession}
-use Rattle.relay_attempt.specs.Exchange.{SilentIn}
 use Rattle.relay_attempt.specs.Passed.{Passed}
-use Rattle.relay_attempt.specs.Head.{link_of}
+use Rattle.relay_hooked.specs.Head.{link_of}
 use Rattle.relay_request.specs.Passed.{World, Start}
 use Rattle.relay_request.specs.Phases.{RunSoFar}
-use Rattle.relay_request.specs.Relaying.{is_closing, is_relaying}
+use Rattle.relay_request.specs.Relaying.{SilentIn, is_closing, is_relaying}
 use Rattle.relay_request.specs.Tries.{tries_in}
 use Rattle.relay_request.specs.Uses.{ExchangeMoved, OwesAnswer}
 use Rattle.relay_request.specs.Work.{total_work}
@@ -148,7 +148,7 @@ module _ {L C : Type 0} (state : L → LinkState) (start_at : L → LinkStart) w
   IsStalled w (Unlinked context session attempts error) = ⊥
   IsStalled w (Prepare context session link lease) = ⊥
   IsStalled w (Relay a) =
-      SilentIn state start_at w.client a.value.exchange
+      SilentIn state w.client a.value.exchange
   IsStalled w (Broken context session link lease keep error) =
       (0 < length (pending session.value.writing.output)) × (w.client.silent_on_write ≡ true)
   IsStalled w (Again context session link lease keep error) = ⊥
@@ -191,23 +191,23 @@ module _ {L C : Type 0} (state : L → LinkState) (start_at : L → LinkStart) w
   -- is owed an answer for one of these; a branch of the exchange moved, or it failed and the client
   -- is owed an answer, which the treatment of an attempt's error leads to, or another attempt
   -- follows; or bytes of that answer were taken
-  abbrev pub HasMoved : World → World → Phase L C → Phase L C → Type 0
-  HasMoved w x ReadHead next = HasGiven w.client x.client ⊎ (is_reading_head next ≡ false)
-  HasMoved w x (Connect context session tries) next =
+  abbrev pub HasMoved : List LogEntry → World → World → Phase L C → Phase L C → Type 0
+  HasMoved log w x ReadHead next = HasGiven w.client x.client ⊎ (is_reading_head next ≡ false)
+  HasMoved log w x (Connect context session tries) next =
       (is_linked next ≡ true) ⊎ (TriesOn tries next ⊎ (CallsOn tries next ⊎ OwesAnswer next))
-  HasMoved w x (Unlinked context session attempts error) next = OwesAnswer next
-  HasMoved w x (Prepare context session link lease) next =
+  HasMoved log w x (Unlinked context session attempts error) next = OwesAnswer next
+  HasMoved log w x (Prepare context session link lease) next =
       (is_relaying next ≡ true) ⊎ OwesAnswer next
-  HasMoved w x (Relay a) next =
-      ((branch : Option Branch) × ExchangeMoved state start_at branch w x a.value.exchange next)
+  HasMoved log w x (Relay a) next =
+      ((branch : Option Branch) × ExchangeMoved state start_at branch log w x a.value.exchange next)
       ⊎ OwesAnswer next
-  HasMoved w x (Broken context session link lease keep error) next =
+  HasMoved log w x (Broken context session link lease keep error) next =
       OwesAnswer next ⊎ IsAgain (tries_in lease) next
-  HasMoved w x (Again context session link lease keep error) next = IsAgain (tries_in lease) next
-  HasMoved w x (Fail link lease keep session error) next = OwesAnswer next
-  HasMoved w x (Answer session owed attempts) next = HasTaken w.client x.client
-  HasMoved w x (Close link lease keep outcome) next = ⊥
-  HasMoved w x (Ended outcome attempts) next = ⊥
+  HasMoved log w x (Again context session link lease keep error) next = IsAgain (tries_in lease) next
+  HasMoved log w x (Fail link lease keep session error) next = OwesAnswer next
+  HasMoved log w x (Answer session owed attempts) next = HasTaken w.client x.client
+  HasMoved log w x (Close link lease keep outcome) next = ⊥
+  HasMoved log w x (Ended outcome attempts) next = ⊥
 
   -- the client's link, or the one that is held, answered in a turn that it has to be waited for
   abbrev pub HasWaited : World → World → Phase L C → Phase L C → Type 0
@@ -222,11 +222,11 @@ module _ {L C : Type 0} (state : L → LinkState) (start_at : L → LinkStart) w
     pub held_same : held_state state next ≡ held_state state phase
 
   -- why a turn was answered so; the end of a request has its cause of its own
-  abbrev pub HasCause : World → World → Phase L C → Phase L C → RunStep → Type 0
-  HasCause w x phase next step.Moved = HasMoved w x phase next
-  HasCause w x phase next (step.Waited NotReady) = HasWaited w x phase next
-  HasCause w x phase next (step.Waited Silent) = MeetsSilence w x phase next
-  HasCause w x phase next step.Ended = Unit {0}
+  abbrev pub HasCause : List LogEntry → World → World → Phase L C → Phase L C → RunStep → Type 0
+  HasCause log w x phase next step.Moved = HasMoved log w x phase next
+  HasCause log w x phase next (step.Waited NotReady) = HasWaited w x phase next
+  HasCause log w x phase next (step.Waited Silent) = MeetsSilence w x phase next
+  HasCause log w x phase next step.Ended = Unit {0}
 
 -- a turn behind which a link is to be handed back moved, or it ended the request
 abbrev pub HandsOn : {L C : Type 0} → Phase L C → RunStep → Type 0

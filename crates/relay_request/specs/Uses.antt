@@ -1,6 +1,7 @@
 -- How a turn uses the links, and what it moved in an exchange, by the branch that it took.
 use Rattle.std.specs.Global.{Box}
 use Rattle.std.specs.Prelude.{◌≡◌, ◌⊎◌, ◌↔◌, ℕ, zero, suc, ◌+◌, ◌≤◌, Bool, IsTrue, min, if◌then◌else◌, List, [], ◌∷◌, Option, None, Some}
+use Rattle.relay_tasks.specs.declared.log.LogEntry.{LogEntry}
 use Rattle.relay_links.specs.Count.{last_count, up, Rose}
 use Rattle.relay_links.specs.Link.{LinkState, LinkStart}
 use Rattle.relay_links.specs.Told.{more}
@@ -9,10 +10,10 @@ use Rattle.relay_links.specs.declared.branch.Branch.{Branch}
 use Rattle.relay_links.specs.declared.branch.Branch.TheVariants as branch
 use Rattle.relay_core.specs.Past.{Origin}
 use Rattle.relay_core.specs.Uses.{AsksEither, AsksNone, IsUsed}
-use Rattle.relay_attempt.specs.Exchange.{IsUnderWay, HasMoved}
-use Rattle.relay_attempt.specs.Head.{link_of}
 use Rattle.relay_attempt.specs.Passed.{Passed}
-use Rattle.relay_attempt.specs.declared.h1_exchange.H1Exchange.{H1Exchange}
+use Rattle.relay_hooked.specs.Exchange.{IsUnderWay, HasMoved}
+use Rattle.relay_hooked.specs.Head.{link_of}
+use Rattle.relay_hooked.specs.declared.exchange.HookedExchange.{HookedExchange}
 use Rattle.relay_request.specs.Passed.{World}
 use Rattle.relay_request.specs.Work.{added_work}
 use Rattle.relay_request.specs.declared.machine.Attempt.{Attempt}
@@ -181,27 +182,27 @@ work_by (Some branch.MessageUp) asked = one_task
 work_by (Some branch.MessageDown) asked = one_task
 
 module _ {L C : Type 0} (state : L → LinkState) (start_at : L → LinkStart) where
-  -- an exchange went on by that branch: one that is under way asked a link once, or it moved a task
-  -- or brought an end
-  pub record ExchangeMoved (branch : Option Branch) (w x : World) (a : H1Exchange L)
-      (next : Phase L C) : Type 0 where
+  -- an exchange went on by that branch: one that is under way by that log asked a link once, or it
+  -- moved a task or brought an end. (That hooks were called is told by their log alone)
+  pub record ExchangeMoved (branch : Option Branch) (log : List LogEntry) (w x : World)
+      (a : HookedExchange L) (next : Phase L C) : Type 0 where
     pub held : Box (Attempt L C)
     pub goes_on : next ≡ Relay held
     pub moved : (s : Origin) (p : Passed)
-        → IsUnderWay state start_at s p w.client w.ahead a
-        → HasMoved state start_at branch w.client x.client a held.value.exchange
+        → IsUnderWay state start_at s p w.client w.ahead log a
+        → HasMoved state branch w.client x.client [] [] a held.value.exchange
 
   -- an exchange went on, and the work of the turn is that of the branch which it took
-  pub record MovedBy (w x : World) (work : Work) (a : H1Exchange L) (next : Phase L C)
-      : Type 0 where
+  pub record MovedBy (log : List LogEntry) (w x : World) (work : Work) (a : HookedExchange L)
+      (next : Phase L C) : Type 0 where
     pub branch : Option Branch
-    pub moved : ExchangeMoved branch w x a next
+    pub moved : ExchangeMoved branch log w x a next
     pub asked : Bool
     pub counted : work ≡ work_by branch asked
 
   -- the same of a step, with what was counted before it
-  pub record MovesOn (w x : World) (before after : Work) (a : H1Exchange L) (next : Phase L C)
-      : Type 0 where
+  pub record MovesOn (log : List LogEntry) (w x : World) (before after : Work)
+      (a : HookedExchange L) (next : Phase L C) : Type 0 where
     pub work : Work
-    pub moves : MovedBy w x work a next
+    pub moves : MovedBy log w x work a next
     pub adds : after ≡ added_work before work

@@ -193,7 +193,7 @@ fn leads_to<K>(place: &Place<K>) -> Opened
 /// the request between two calls.
 #[derive(Drop)]
 pub struct Calls<M, K, C> {
-    session: Session<M>,
+    pub session: Session<M>,
     at: At<K, C>,
 }
 

@@ -4,6 +4,7 @@
 
 mod calls;
 mod closing_hooks;
+mod delaying;
 mod machine;
 mod outcome;
 mod owed;
@@ -15,6 +16,7 @@ pub use calls::{
     At, Calls, Opened, answer_error, begin_calls, call_last, call_next, call_purger, filter,
     tell_link, treat, treat_unlinked,
 };
+pub use delaying::hand_delays;
 pub use machine::{Attempt, Did, Lease, Machine, Next, Phase, RunStep};
 pub use outcome::{Ending, Outcome, Processed, count_ended, kept_of};
 pub use owed::Owed;

@@ -23,7 +23,7 @@ use crate::outcome::Outcome;
 use crate::owed::Owed;
 use crate::record::{AttemptList, AttemptRoom};
 use crate::work::Work;
-use relay_attempt::H1Exchange;
+use relay_hooked::HookedExchange;
 use relay_session::HttpSession;
 use relay_tasks::{Error, Pause, Peer};
 use std::mem;
@@ -53,7 +53,7 @@ pub struct Lease {
 /// An attempt at a request: its exchange, which has the link. It is large, so its phase holds it
 /// behind a pointer, and a turn works on it where it stands.
 pub struct Attempt<L, C> {
-    pub exchange: H1Exchange<L>,
+    pub exchange: HookedExchange<L>,
     pub lease: Lease,
     pub context: C,
 }

@@ -1,11 +1,11 @@
 //! How often the links of an exchange were asked, as they tell it.
 ghost use Rattle.std.specs.Prelude.{◌≡◌, ◌≤◌, ◌⊎◌, ◌↔◌, IsTrue};
 ghost use Rattle.relay_links.specs.Count.{last_count, Rose};
-ghost use Rattle.relay_attempt.specs.Head.{link_of};
+ghost use Rattle.relay_hooked.specs.Head.{link_of};
 ghost use Rattle.relay_request.specs.Reuse.{has_risen};
 
-use relay_attempt::H1Exchange;
 use relay_h1::Connection;
+use relay_hooked::HookedExchange;
 use relay_links::ByteLink;
 
 /// The counts of uses of both links of an exchange.
@@ -19,7 +19,7 @@ impl Uses {
     /// As they stand.
     pub fn of<D: ByteLink, U, L: ByteLink>(
         client: &Connection<D, U>,
-        exchange: &H1Exchange<L>,
+        exchange: &HookedExchange<L>,
     ) -> Uses
         ensures { result ≡ record {
           client = (D.state client.now.link).used;

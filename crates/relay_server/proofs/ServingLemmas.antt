@@ -15,8 +15,9 @@ use Rattle.relay_links.specs.declared.Returned.{Returned}
 use Rattle.relay_modules.specs.Module.{ModuleCall}
 use Rattle.relay_hooks.specs.Standing.{Standing}
 use Rattle.relay_core.specs.Past.{Origin}
-use Rattle.relay_attempt.specs.Order.{IsInOrder}
 use Rattle.relay_attempt.specs.Passed.{Passed}
+use Rattle.relay_hooked.specs.Calls.{Filtering}
+use Rattle.relay_hooked.specs.Order.{IsInOrder}
 use Rattle.relay_peer.specs.Body.{IsFrontOf}
 use Rattle.relay_session.specs.declared.session.HttpSession.{HttpSession}
 use Rattle.relay_session.specs.declared.writing.Outgoing.{Outgoing}
@@ -228,11 +229,11 @@ attempts_later s p link ahead f g attempts (Some e) reuse (AttemptsFailed.ahead 
     AttemptsFailed.ahead (ahead_later s p link ahead f g (Some e) ends) made
 
 -- nor does which client may ask for more
-reusable_later : {o : Origin} {p : Passed} {closed : Bool} {order : IsInOrder o p closed}
-    {first : ℕ} (client : LinkState) (ahead : List ℕ) (f g : ℕ)
-    → IsClientReusable o p closed order first (world_with client ahead f)
-    → IsClientReusable o p closed order first (world_with client ahead g)
-reusable_later client ahead f g may = record {
+reusable_later : {f : Filtering} {o : Origin} {p : Passed} {closed : Bool}
+    {order : IsInOrder f o p closed} {first : ℕ} (client : LinkState) (ahead : List ℕ) (i j : ℕ)
+    → IsClientReusable o p closed order first (world_with client ahead i)
+    → IsClientReusable o p closed order first (world_with client ahead j)
+reusable_later client ahead i j may = record {
   version = may.version;
   asks = may.asks;
   answers = may.answers;
@@ -251,6 +252,9 @@ linked_later s p client ahead f g link start keep told None reuse (inl whole) = 
   sent = whole.sent;
   relayable = whole.relayable;
   sends = whole.sends;
+  f = whole.f;
+  began = whole.began;
+  stands = whole.stands;
   relayed = whole.relayed;
   unshort = whole.unshort;
   calm = whole.calm;
@@ -268,9 +272,13 @@ linked_later s p client ahead f g link start keep told None reuse (inr early) = 
   sent = early.sent;
   relayable = early.relayable;
   sends = early.sends;
+  f = early.f;
+  began = early.began;
+  stands = early.stands;
   early = early.early;
   calm = early.calm;
-  unkept = early.unkept;
+  kept = early.kept;
+  faultless = early.faultless;
   goes_back = (
     λ back. reusable_later client ahead f g (early.goes_back.0 back),
     λ may. early.goes_back.1 (reusable_later client ahead g f may),
@@ -384,7 +392,10 @@ module _ {L C : Type 0} (state : L → LinkState) (start_at : L → LinkStart) w
     sent = at.sent;
     relayable = at.relayable;
     sends = at.sends;
+    began = at.began;
+    at_sent = at.at_sent;
     under_way = at.under_way;
+    at_first = at.at_first;
     is_left = at.is_left;
     quiet = at.quiet;
   }
@@ -690,7 +701,10 @@ module _ {L C D U M : Type 0}
     pub faults : old.faults ≤ now.faults
     pub most : now.most ≡ old.most
     pub first : next.first ≡ visit.first
-    pub calls : CallsSoFar allows mark_of visit.calls visit.phase
+    pub calls : (s : Start) (p : Passed) (own : List (Returned L)) → s.most ≡ old.most
+        → s.first ≡ visit.first → CallsSoFar allows mark_of visit.calls visit.phase
+        → RunSoFar state start_at (called_to s (log_of visit.calls)) p
+        (world_of client_state visit.client old.faults) own visit.phase
         → CallsSoFar allows mark_of next.calls next.phase
     pub front : IsFrontOf (log_of visit.calls) (log_of next.calls)
     pub steps : (s : Start) (p : Passed) (own : List (Returned L)) → s.most ≡ old.most
@@ -703,7 +717,8 @@ module _ {L C D U M : Type 0}
         visit.phase next.phase
 
   -- what a turn made of the run of a request: the attempts that were tried again before, or one
-  -- more; what passed in the last one, and the links that were handed back in it, or in the turn
+  -- more; what passed in the last one, the links that were handed back in it, or in the turn, and
+  -- the calls so far
   pub record GoesFurther (old now : Books L) (visit next : Visit D U L C M) (s : Start)
       (own : List (Returned L)) : Type 0 where
     pub legs : List (Leg L)
@@ -715,6 +730,7 @@ module _ {L C D U M : Type 0}
     pub own_are : own ++ handed ≡ map (λ leg. leg.back) legs ++ last
     pub run : RunSoFar state start_at (called_to (behind s legs) (log_of next.calls)) passed
         (world_of client_state next.client now.faults) last next.phase
+    pub calls : CallsSoFar allows mark_of next.calls next.phase
 
   -- the turn of a request that is under way
   turn_on : (old now : Books L) (visit next : Visit D U L C M)
@@ -732,6 +748,11 @@ module _ {L C D U M : Type 0}
 
       base : Start
       base = behind s under.legs
+
+      -- the calls so far go on with those of the turn
+      now_calls : CallsSoFar allows mark_of next.calls next.phase
+      now_calls = turn.calls base under.passed under.last (behind_most s under.legs ∙ under.limit)
+          (behind_first s under.legs ∙ under.first) under.calls under.run
 
       -- the attempts before were tried again still
       later : AreLegs state start_at (called_to s (log_of next.calls)) under.legs
@@ -753,6 +774,7 @@ module _ {L C D U M : Type 0}
         own_are = ap (λ (l : List (Returned L)). l ++ taken.handed) under.own_are
             ∙ append_assoc (map (λ (leg : Leg L). leg.back) under.legs) under.last taken.handed;
         run = taken.run;
+        calls = now_calls;
       }
       by (StepsOn.again taken) = record {
         legs = under.legs ++ taken.leg ∷ [];
@@ -774,6 +796,7 @@ module _ {L C D U M : Type 0}
         run = subst (λ (b : Start). RunSoFar state start_at (called_to b (log_of next.calls))
             taken.passed (world_of client_state next.client now.faults) [] next.phase)
             (sym (behind_more s under.legs taken.leg)) taken.run;
+        calls = now_calls;
       }
 
   -- a turn behind which the request goes on
@@ -801,7 +824,7 @@ module _ {L C D U M : Type 0}
             start = under.start;
             limit = under.limit ∙ sym turn.most;
             first = under.first ∙ sym turn.first;
-            calls = turn.calls under.calls;
+            calls = taken.calls;
             legs = taken.legs;
             are_legs = taken.are_legs;
             passed = taken.passed;
@@ -841,7 +864,7 @@ module _ {L C D U M : Type 0}
             (ended_gains state start_at allows before old.requests_ended old.returned now.returned
             serves.links taken.handed serves.ended taken.gained));
         start = under.start;
-        calls = turn.calls under.calls;
+        calls = taken.calls;
         legs = taken.legs;
         are_legs = taken.are_legs;
         passed = taken.passed;

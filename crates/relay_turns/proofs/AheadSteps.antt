@@ -22,14 +22,15 @@ use Rattle.relay_session.specs.declared.session.HttpSession.{HttpSession}
 use Rattle.relay_session.specs.declared.writing.Outgoing.{Outgoing}
 use Rattle.relay_session.specs.declared.writing.Outgoing.TheVariants as outgoing
 use Rattle.relay_peer.specs.Faults.{TellsSince}
-use Rattle.relay_attempt.specs.Order.{WrittenTo, order_of, queued_in}
+use Rattle.relay_attempt.specs.Order.{WrittenTo}
 use Rattle.relay_attempt.specs.Passed.{Passed}
 use Rattle.relay_attempt.proofs.FailLemmas.{written_to}
+use Rattle.relay_hooked.specs.Order.{order_of}
 use Rattle.relay_peer.proofs.FaultLemmas.{grew_none, grew_same}
 use Rattle.relay_sides.specs.Client.{BeginsBehind}
 use Rattle.relay_request.specs.Answer.{past_at}
 use Rattle.relay_request.specs.Endings.{FailsToWrite}
-use Rattle.relay_request.specs.Passed.{World, Start, origin_of, TellsClient}
+use Rattle.relay_request.specs.Passed.{World, Start, origin_at, origin_of, TellsClient}
 use Rattle.relay_request.specs.Phases.{IsBroken, IsLeased, LeavesSession, RunSoFar, waits_to_begin, written_out}
 use Rattle.relay_request.specs.Turn.{Advances}
 use Rattle.relay_request.specs.declared.machine.Lease.{Lease}
@@ -37,6 +38,7 @@ use Rattle.relay_request.specs.declared.machine.Phase.TheVariants.{Broken, Close
 use Rattle.relay_request.specs.declared.outcome.Outcome.TheVariants as outcome
 use Rattle.relay_turns.proofs.AgainLemmas.{begins_there, out_still, rebased_to}
 use Rattle.relay_turns.proofs.AnswerSteps.{WrittenOf, client_failed, fails_to_write, past_same, still, write_failed}
+use Rattle.relay_turns.proofs.CutLemmas.{queued_in}
 use Rattle.relay_turns.proofs.Tells.{client_still, client_took}
 use Rattle.relay_turns.proofs.FailSteps.{leaves_part, left_memory, part_closed, part_order}
 
@@ -99,13 +101,17 @@ left_wrote : (s : Start) (p : Passed) (written : List ℕ) (before after : LinkS
 left_wrote s p written before after ahead link start session left e to given same keeps fails was
     tells l =
     let o = origin_of s l.head l.sent start.reused in
-    let on = still o (past_at p l.before) before after link start e to l.why in
+    let on = still l.f (origin_at s l.head l.sent start.reused l.began) (past_at p l.before) before
+    after link start e to l.why in
     record {
       head = l.head;
       sent = l.sent;
       relayable = l.relayable;
       sends = l.sends;
       before = l.before;
+      f = l.f;
+      began = l.began;
+      stands = l.stands;
       why = on.again;
       answers = ap (λ (h : HttpSession). h.writing.request) same ∙ l.answers;
       holds = subst (λ (tasks : List HttpTask). Holds left.writing tasks written) (sym on.same)

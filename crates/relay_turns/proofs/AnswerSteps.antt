@@ -10,6 +10,7 @@ use Rattle.relay_tasks.specs.Head.{RequestHead}
 use Rattle.relay_tasks.specs.declared.Error.{Error}
 use Rattle.relay_tasks.specs.declared.ErrorSource.TheVariants.{Downstream}
 use Rattle.relay_tasks.specs.declared.Fault.{Fault}
+use Rattle.relay_tasks.specs.declared.log.LogEntry.{LogEntry}
 use Rattle.relay_tasks.specs.declared.task.HttpTask.{HttpTask}
 use Rattle.relay_links.specs.Link.{LinkState, LinkStart, FailsWrite}
 use Rattle.relay_links.specs.declared.Returned.{Returned}
@@ -25,17 +26,20 @@ use Rattle.relay_session.specs.declared.writing.Outgoing.TheVariants as outgoing
 use Rattle.relay_core.specs.Past.{Origin}
 use Rattle.relay_peer.specs.Body.{IsFrontOf}
 use Rattle.relay_peer.proofs.FaultLemmas.{added_last, grew_none, grew_same, more_none}
-use Rattle.relay_attempt.specs.Order.{FailsFor, WrittenTo, order_of, queued_in}
+use Rattle.relay_attempt.specs.Order.{WrittenTo}
 use Rattle.relay_attempt.specs.Passed.{Passed}
 use Rattle.relay_attempt.proofs.FailLemmas.{blames_still, written_to}
 use Rattle.relay_valid.specs.Valid.{IsValid}
-use Rattle.relay_valid.proofs.ValidLemmas.{never_fails}
+use Rattle.relay_hooked.specs.Calls.{Filtering}
+use Rattle.relay_hooked.specs.Neutral.{AreNeutral}
+use Rattle.relay_hooked.specs.Order.{FailsFor, order_of}
+use Rattle.relay_still.proofs.FailLemmas.{never_fails}
 use Rattle.relay_request.specs.Ahead.{IsOwedAhead}
 use Rattle.relay_request.specs.Answer.{past_at, WaitsOf, answer_to}
 use Rattle.relay_request.specs.Endings.{IsInOrder, IsGiven, IsGivenAhead, AttemptsFailed, EndsAhead, IsPartAhead, IsPartRefused, FailsToWrite, IsFailedAttempt, IsUnsentAttempt, IsHalfRefused, IsPart, HasFailed, Misses, owed_by, EndsWith, FailsToGive}
 use Rattle.relay_request.specs.Owed.{Owes, HasAttempts, IsAnswering, IsAnsweredCalmly, TellsAgain, TellsOwed, outcome_written, outcome_failed}
 use Rattle.relay_request.specs.Reuse.{goes_back_with}
-use Rattle.relay_request.specs.Passed.{answered, World, Start, origin_of, asked, TellsClient}
+use Rattle.relay_request.specs.Passed.{answered, World, Start, origin_at, asked, TellsClient}
 use Rattle.relay_request.specs.Phases.{PhaseHolds, RunSoFar}
 use Rattle.relay_request.specs.Relayable.{IsAccepted}
 use Rattle.relay_request.specs.Tries.{fault_error}
@@ -52,7 +56,6 @@ use Rattle.relay_request.specs.declared.record.AttemptRecord.{AttemptRecord}
 use Rattle.relay_turns.proofs.OverLemmas.{over_on}
 use Rattle.relay_turns.proofs.OpenHead.{turns_down_open, exchange_open}
 use Rattle.relay_turns.proofs.Tells.{Rose-le, client_took, client_still, take_whole, take_rest}
-use Rattle.relay_turns.proofs.CutLemmas.{cut_next}
 use Rattle.relay_turns.proofs.ReuseLemmas.{may_exactly}
 
 -- the client took some
@@ -65,14 +68,14 @@ taken_of (outgoing.Broken fault) before after n left some writes = absurd (omega
 
 -- a turn that moved or ended has its cause where it moved
 pub moved_or_ended : {L C : Type 0} (state : L → LinkState) (start_at : L → LinkStart)
-    (w x : World) (phase next : Phase L C) (did : RunStep)
+    (log : List LogEntry) (w x : World) (phase next : Phase L C) (did : RunStep)
     → (did ≡ step.Moved) ⊎ (did ≡ step.Ended)
-    → (did ≡ step.Moved → HasMoved state start_at w x phase next)
-    → HasCause state start_at w x phase next did
-moved_or_ended state start_at w x phase next did (inl is) moved =
-    subst (λ (d : RunStep). HasCause state start_at w x phase next d) (sym is) (moved is)
-moved_or_ended {L} {C} state start_at w x phase next did (inr is) moved =
-    subst (λ (d : RunStep). HasCause state start_at w x phase next d) (sym is) tt
+    → (did ≡ step.Moved → HasMoved state start_at log w x phase next)
+    → HasCause state start_at log w x phase next did
+moved_or_ended state start_at log w x phase next did (inl is) moved =
+    subst (λ (d : RunStep). HasCause state start_at log w x phase next d) (sym is) (moved is)
+moved_or_ended {L} {C} state start_at log w x phase next did (inr is) moved =
+    subst (λ (d : RunStep). HasCause state start_at log w x phase next d) (sym is) tt
 
 -- a session of which some was written is another by its output alone
 abbrev pub WrittenOf : HttpSession → HttpSession → Type 0
@@ -119,26 +122,41 @@ fails_to_write s x fault gives = record {
 -- ---- a failed exchange
 
 -- what failed an exchange still did, and the same was queued in it
-pub record Still {o : Origin} {p : Passed} {before link : LinkState} {start : LinkStart} {e : Error}
-    (why : FailsFor o p before link start e) (after : LinkState) : Type 0 where
-  pub again : FailsFor o p after link start e
-  pub same : queued_in (order_of again) ≡ queued_in (order_of why)
+pub record Still {f : Filtering} {o : Origin} {p : Passed} {before link : LinkState}
+    {start : LinkStart} {e : Error} (why : FailsFor f o p before link start e) (after : LinkState)
+    : Type 0 where
+  pub again : FailsFor f o p after link start e
+  pub same : (order_of again).queued ++ (order_of again).closing
+      ≡ (order_of why).queued ++ (order_of why).closing
 
-pub still : (o : Origin) (p : Passed) (before after link : LinkState) (start : LinkStart)
-    (e : Error) → WrittenTo before after → (why : FailsFor o p before link start e)
-    → Still why after
-still o p before after link start e to (FailsFor.by_client order blames) = record {
+pub still : (f : Filtering) (o : Origin) (p : Passed) (before after link : LinkState)
+    (start : LinkStart) (e : Error) → WrittenTo before after
+    → (why : FailsFor f o p before link start e) → Still why after
+still f o p before after link start e to (FailsFor.by_client order blames) = record {
   again = FailsFor.by_client order (blames_still o _ before after to e blames);
   same = refl;
 }
-still o p before after link start e to (FailsFor.by_peer order lost blames) =
+still f o p before after link start e to (FailsFor.by_peer order lost blames) =
     record { again = FailsFor.by_peer order lost blames; same = refl }
-still o p before after link start e to (FailsFor.by_refusal order refuses) =
-    record { again = FailsFor.by_refusal order refuses; same = refl }
-still o p before after link start e to (FailsFor.by_writer order batch unasked read refused) =
-    record { again = FailsFor.by_writer order batch unasked read refused; same = refl }
-still o p before after link start e to (FailsFor.by_cut at order unasked read refused) =
-    record { again = FailsFor.by_cut at order unasked read refused; same = refl }
+still f o p before after link start e to
+    (FailsFor.by_piece order stopped front last are call answered) =
+    record { again = FailsFor.by_piece order stopped front last are call answered; same = refl }
+still f o p before after link start e to
+    (FailsFor.by_batch order stopped unasked stand batch front own are read stops refuses) =
+    record {
+      again = FailsFor.by_batch order stopped unasked stand batch front own are read stops refuses;
+      same = refl;
+    }
+still f o p before after link start e to
+    (FailsFor.by_writer order stand batch made unasked read made_so refused) =
+    record {
+      again = FailsFor.by_writer order stand batch made unasked read made_so refused;
+      same = refl;
+    }
+still f o p before after link start e to (FailsFor.by_cut order front at unasked is passes) =
+    record { again = FailsFor.by_cut order front at unasked is passes; same = refl }
+still f o p before after link start e to (FailsFor.by_end refused order ends why cannot) =
+    record { again = FailsFor.by_end refused order ends why cannot; same = refl }
 
 -- an exchange that failed still did, and as much is owed
 record FailedOn {s : Start} {p : Passed} {before link : LinkState} {start : LinkStart} {e : Error}
@@ -151,8 +169,8 @@ failed_on : (s : Start) (p : Passed) (written : List ℕ) (before after link : L
     (start : LinkStart) (e : Error) (failed : HasFailed s p before link start e)
     → WrittenTo before after → FailedOn failed written after
 failed_on s p written before after link start e failed to =
-    let on = still (origin_of s failed.head failed.sent start.reused) (past_at p failed.before)
-    before after link start failed.raised to failed.why in
+    let on = still failed.f (origin_at s failed.head failed.sent start.reused failed.began)
+    (past_at p failed.before) before after link start failed.raised to failed.why in
     record {
       again = record {
         head = failed.head;
@@ -163,6 +181,9 @@ failed_on s p written before after link start e failed to =
         raised = failed.raised;
         treated = failed.treated;
         told = failed.told;
+        f = failed.f;
+        began = failed.began;
+        stands = failed.stands;
         why = on.again;
         over = over_on s before after failed.treated.e e to failed.over;
       };
@@ -195,13 +216,14 @@ misses_on s p written before after link start keep e text to (Misses.ahead_of_it
       unsent = record { got = r.unsent.got; sent = r.unsent.sent };
     }) is
 
--- no valid exchange fails
+-- no valid exchange fails whose filters changed nothing
 pub failed_invalid : (s : Start) (p : Passed) (client link : LinkState) (start : LinkStart)
-    (e : Error) (failed : HasFailed s p client link start e)
-    → IsValid (origin_of s failed.head failed.sent start.reused) p client link start → ⊥
-failed_invalid s p client link start e failed valid =
-    never_fails (origin_of s failed.head failed.sent start.reused) (past_at p failed.before) client
-    link start failed.raised failed.why (record {
+    (e : Error) (failed : HasFailed s p client link start e) → AreNeutral failed.f.calls
+    → IsValid (origin_at s failed.head failed.sent start.reused failed.began) p client link start
+    → ⊥
+failed_invalid s p client link start e failed neutral valid =
+    never_fails failed.f (origin_at s failed.head failed.sent start.reused failed.began)
+    (past_at p failed.before) client link start neutral (record {
       asks = record {
         request = valid.asks.request;
         gives = valid.asks.gives;
@@ -217,7 +239,7 @@ failed_invalid s p client link start e failed valid =
       agrees = valid.agrees;
       client_faultless = valid.client_faultless;
       link_faultless = valid.link_faultless;
-    })
+    }) failed.raised failed.why
 
 -- how an attempt ends that failed, and whose client was given what it is owed
 pub ends_missed : (s : Start) (p : Passed) (w : World) (link : LinkState) (start : LinkStart)
@@ -428,9 +450,8 @@ module _ {L : Type 0} (state : L → LinkState) (start_at : L → LinkStart) whe
   owes_order s p w (r ∷ own) (Refused error) text owes front = absurd owes
   owes_order s p w (r ∷ own) (Ahead why) text owes front = absurd owes
   owes_order s p w (r ∷ own) (Served e) text (Misses.in_exchange f is kept) front =
-      IsInOrder.is_failure _ f.head f.sent _ _ f.before f.raised e f.relayable f.sends
-      (order_of f.why) (cut_next _ (past_at p f.before) w.client _ _ f.raised f.why) f.treated
-      f.told
+      IsInOrder.is_failure _ f.f f.began f.head f.sent _ _ f.before f.raised e f.relayable f.sends
+      f.stands (order_of f.why) f.treated f.told
       (subst (λ (t : List ℕ). IsFrontOf p.written t) is front)
   owes_order s p w (r ∷ own) (Served e) text (Misses.ahead_of_it f is) front =
       IsInOrder.is_unsent f.head r.keep f.raised e f.accepted f.refused f.treated f.told
@@ -449,7 +470,8 @@ module _ {L : Type 0} (state : L → LinkState) (start_at : L → LinkStart) whe
   owes_open s p w (r ∷ own) (Refused error) text owes open_head = absurd owes
   owes_open s p w (r ∷ own) (Ahead why) text owes open_head = absurd owes
   owes_open s p w (r ∷ own) (Served e) text (Misses.in_exchange f is kept) open_head =
-      exchange_open _ s (past_at p f.before) f.head f.sent _ _ (order_of f.why) open_head
+      exchange_open _ f.f s (past_at p f.before) f.head f.sent _ f.began _ (order_of f.why)
+      open_head
   owes_open s p w (r ∷ own) (Served e) text (Misses.ahead_of_it f is) open_head =
       HasRequest-IsOpen (asked s p) f.head f.accepted.framing f.accepted.len f.accepted.has
       open_head

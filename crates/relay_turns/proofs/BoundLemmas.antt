@@ -5,7 +5,7 @@
 --   head_bounds, link_bounds      a turn that reads the head, and one that asks for a link
 --   relay_moved, relay_waited, relay_finished, relay_failed    a turn of an exchange
 --   answer_bounds                 a turn that writes an answer
---   head_turn_bounds, link_turn_bounds, unlinked_turn_bounds, relay_turn_bounds
+--   head_turn_bounds, link_turn_bounds, unlinked_turn_bounds, send_turn_bounds
 --                                 the same, over links handed back
 --   open_counts                   a phase none of whose links is to be handed back
 --   within_link                   what was counted of an attempt that is given up
@@ -22,21 +22,23 @@ use Rattle.relay_tasks.specs.declared.error.Fail.{Fail as Why}
 use Rattle.relay_session.specs.declared.session.HttpSession.{HttpSession}
 use Rattle.relay_tasks.specs.declared.took.Pause.{Pause}
 use Rattle.relay_core.specs.Counts.{CountsAs}
+use Rattle.relay_core.specs.Past.{Origin}
 use Rattle.relay_core.specs.Table.{State}
 use Rattle.relay_core.specs.declared.step.Step.{Step}
 use Rattle.relay_core.specs.declared.step.Step.TheVariants as step
 use Rattle.relay_exchange.specs.Exchange as over
 use Rattle.relay_exchange.specs.declared.exchange.Turn.{Turn}
-use Rattle.relay_attempt.specs.Bound.{CountsOn, HasCounted, core_in, most_tasks}
+use Rattle.relay_attempt.specs.Bound.{most_tasks}
 use Rattle.relay_attempt.specs.Bound as attempt
-use Rattle.relay_attempt.specs.Head.{link_of}
 use Rattle.relay_attempt.specs.Passed.{Passed}
-use Rattle.relay_attempt.proofs.BoundLemmas.{first_counted, counted_within}
+use Rattle.relay_hooked.specs.Bound.{CountsOn, HasCounted}
+use Rattle.relay_hooked.specs.Head.{core_in, link_of}
+use Rattle.relay_hooked.proofs.BoundLemmas.{first_counted, counted_within}
 use Rattle.relay_request.specs.Bound.{AttemptCounts, CountsAnswer, CountsCall, CountsHead, CountsLink, CountsSend, CountsTreat, IsBounded, IsWithin, LeavesLink, LinkGave, OwnGave, PhaseCounts, TurnedCounts, most_sides, sides_before}
-use Rattle.relay_request.specs.Passed.{World, Start, called_to, origin_of}
+use Rattle.relay_request.specs.Passed.{World, Start, called_to, opened_to, origin_at}
 use Rattle.relay_request.specs.Phases.{RunSoFar}
 use Rattle.relay_request.specs.Refusals.{attempts_in}
-use Rattle.relay_request.specs.Relaying.{TurnsWithin, is_closing, is_relaying, turned}
+use Rattle.relay_request.specs.Relaying.{TurnsWithin, is_closing, turned}
 use Rattle.relay_request.specs.Tries.{tries_in}
 use Rattle.relay_request.specs.Turn.{Advances}
 use Rattle.relay_request.specs.Uses.{Measured, work_by}
@@ -173,7 +175,8 @@ module _ {L C : Type 0} (state : L → LinkState) (start_at : L → LinkStart) w
       (LinkGave state start_at (link_of a.exchange))
   within_link tasks ends s client ahead a counts =
       let w = counted_within state start_at counts.of_tasks counts.of_ends
-      (origin_of s counts.head counts.sent a.lease.reused) client ahead a.exchange counts.counted in
+      (origin_at s counts.head counts.sent a.lease.reused counts.began) client ahead s.called
+      a.exchange counts.counted in
       record {
         came = w.came;
         got = w.got;
@@ -300,10 +303,12 @@ module _ {L C : Type 0} (state : L → LinkState) (start_at : L → LinkStart) w
   send_bounds s p w (Relay a) work before tasks ends run counts had = record {
     head = run.holds.head;
     sent = run.holds.sent;
+    began = run.holds.began;
     of_tasks = 0;
     of_ends = 0;
-    counted = first_counted state start_at (origin_of s run.holds.head run.holds.sent
-        a.value.lease.reused) p w.client w.ahead a.value.exchange run.holds.under_way;
+    counted = first_counted state start_at (origin_at s run.holds.head run.holds.sent
+        a.value.lease.reused run.holds.began) p w.client w.ahead s.called a.value.exchange
+        run.holds.under_way;
     tasks_are = omega (arith, counts.0, had.0);
     ends_are = omega (arith, counts.1, had.1, as_many counts.2);
   }
@@ -516,45 +521,48 @@ module _ {L C : Type 0} (state : L → LinkState) (start_at : L → LinkStart) w
   attempt_counts tasks ends s client ahead phase a is counts =
       subst (λ (k : Phase L C). PhaseCounts state start_at tasks ends s client ahead [] k) is counts
 
-  module _ (s : Start) (client client' : LinkState) (ahead left : List ℕ) (phase next : Phase L C)
-      (did : Turn) (asked : Bool)
-      (t : TurnsWithin state start_at client client' ahead left phase next did asked)
-      (tasks ends : ℕ) (had : PhaseCounts state start_at tasks ends s client ahead [] phase)
+  module _ (s : Start) (log log' : List LogEntry) (client client' : LinkState)
+      (ahead left : List ℕ) (phase next : Phase L C) (did : Turn) (asked : Bool)
+      (t : TurnsWithin state start_at client client' ahead left log log' phase next did asked)
+      (tasks ends : ℕ)
+      (had : PhaseCounts state start_at tasks ends (opened_to s log) client ahead [] phase)
     where
       -- what its attempt counted before
-      before : AttemptCounts state start_at tasks ends s client ahead t.attempt.value
-      before = attempt_counts tasks ends s client ahead phase t.attempt t.was had
+      before : AttemptCounts state start_at tasks ends (opened_to s log) client ahead
+          t.attempt.value
+      before = attempt_counts tasks ends (opened_to s log) client ahead phase t.attempt t.was had
+
+      -- where its exchange began
+      abbrev origin : Origin
+      origin = origin_at (opened_to s log) before.head before.sent t.attempt.value.lease.reused
+          before.began
 
       -- what its turn counts
-      goes_on : CountsOn state start_at before.of_tasks before.of_ends
-          (origin_of s before.head before.sent t.attempt.value.lease.reused) client' left
+      goes_on : CountsOn state start_at before.of_tasks before.of_ends origin client' left log log'
           t.attempt.value.exchange t.exchange did.step
-      goes_on = t.turns.counts (origin_of s before.head before.sent t.attempt.value.lease.reused)
-          before.of_tasks before.of_ends before.counted
+      goes_on = t.turns.counts origin before.of_tasks before.of_ends before.counted
 
       -- the same by that answer
       goes_by : (r : Step) → did.step ≡ r
-          → CountsOn state start_at before.of_tasks before.of_ends
-          (origin_of s before.head before.sent t.attempt.value.lease.reused) client' left
+          → CountsOn state start_at before.of_tasks before.of_ends origin client' left log log'
           t.attempt.value.exchange t.exchange r
       goes_by r is =
-          subst (λ (k : Step). CountsOn state start_at before.of_tasks before.of_ends
-          (origin_of s before.head before.sent t.attempt.value.lease.reused) client' left
-          t.attempt.value.exchange t.exchange k) is goes_on
+          subst (λ (k : Step). CountsOn state start_at before.of_tasks before.of_ends origin client'
+          left log log' t.attempt.value.exchange t.exchange k) is goes_on
 
       -- the attempt goes on
       stays_under : (of_tasks of_ends more_tasks more_ends : ℕ)
-          → HasCounted state start_at of_tasks of_ends
-          (origin_of s before.head before.sent t.attempt.value.lease.reused) client' left t.exchange
+          → HasCounted state start_at of_tasks of_ends origin client' left log' t.exchange
           → of_tasks ≡ more_tasks + before.of_tasks → of_ends ≡ more_ends + before.of_ends
-          → TurnedCounts state start_at (more_tasks + tasks) (more_ends + ends) s client' left []
-          next
+          → TurnedCounts state start_at (more_tasks + tasks) (more_ends + ends)
+          (opened_to s log') client' left [] next
       stays_under of_tasks of_ends more_tasks more_ends counted all_tasks all_ends =
           subst (λ (k : Phase L C). TurnedCounts state start_at (more_tasks + tasks)
-          (more_ends + ends) s client' left [] k) (sym t.stands)
+          (more_ends + ends) (opened_to s log') client' left [] k) (sym t.stands)
           (record {
             head = before.head;
             sent = before.sent;
+            began = before.began;
             of_tasks = of_tasks;
             of_ends = of_ends;
             counted = counted;
@@ -565,32 +573,30 @@ module _ {L C : Type 0} (state : L → LinkState) (start_at : L → LinkStart) w
       -- a turn that moved
       pub relay_moved : did.step ≡ step.Moved
           → TurnedCounts state start_at ((work_by did.branch asked).moved + tasks)
-          ((work_by did.branch asked).ended + ends) s client' left [] next
+          ((work_by did.branch asked).ended + ends) (opened_to s log') client' left [] next
       relay_moved is =
           let work = work_by did.branch asked in
-          let moved = t.turns.moves (origin_of s before.head before.sent
-          t.attempt.value.lease.reused)
-          before.counted.passed before.counted.under_way is in
+          let moved = t.turns.moves origin before.counted.passed before.counted.under_way is in
           let counts = counts_as client client' (state (link_of t.attempt.value.exchange))
           (state (link_of t.exchange)) asked t.turns.measured did.branch
-          (core_in state start_at t.attempt.value.exchange) (core_in state start_at t.exchange)
-          moved in
+          (core_in log t.attempt.value.exchange) (core_in log' t.exchange) moved in
           stays_under (work.moved + before.of_tasks) (work.ended + before.of_ends) work.moved
           work.ended (goes_by step.Moved is work.moved work.ended counts) refl refl
 
       -- one that waited
       pub relay_waited : (pause : Pause) → did.step ≡ step.Waited pause
-          → TurnedCounts state start_at (0 + tasks) (0 + ends) s client' left [] next
+          → TurnedCounts state start_at (0 + tasks) (0 + ends) (opened_to s log') client' left []
+          next
       relay_waited pause is =
           stays_under before.of_tasks before.of_ends 0 0 (goes_by (step.Waited pause) is)
           (omega arith) (omega arith)
 
       -- one that ended the exchange, whose link is to be handed back
-      over_by : attempt.IsWithin before.of_tasks before.of_ends
-          (origin_of s before.head before.sent t.attempt.value.lease.reused) client'
+      over_by : attempt.IsWithin before.of_tasks before.of_ends origin client'
           (state (link_of t.exchange)) (start_at (link_of t.exchange))
           → (settled : Phase L C) → LeavesLink (link_of t.exchange) t.attempt.value.lease settled
-          → TurnedCounts state start_at (0 + tasks) (1 + ends) s client' left [] settled
+          → TurnedCounts state start_at (0 + tasks) (1 + ends) (opened_to s log') client' left []
+          settled
       over_by w ReadHead leaves = absurd leaves
       over_by w (Connect context session tries) leaves = absurd leaves
       over_by w (Unlinked context session attempts e) leaves = absurd leaves
@@ -635,18 +641,20 @@ module _ {L C : Type 0} (state : L → LinkState) (start_at : L → LinkStart) w
       pub relay_finished : did.step ≡ step.Finished → (settled : Phase L C)
           → ((a : Box (Attempt L C)) → next ≡ Relay a
           → LeavesLink (link_of a.value.exchange) a.value.lease settled)
-          → TurnedCounts state start_at (0 + tasks) (1 + ends) s client' left [] settled
+          → TurnedCounts state start_at (0 + tasks) (1 + ends) (opened_to s log') client' left []
+          settled
       relay_finished is settled leaves =
-          over_by (goes_by step.Finished is) settled (leaves (turned t.attempt t.exchange) t.stands)
+          over_by (goes_by step.Finished is) settled (leaves (turned t.attempt t.exchange t.context) t.stands)
 
       -- one that failed it
       pub relay_failed : (why : Why) → did.step ≡ step.Failed why → (settled : Phase L C)
           → ((a : Box (Attempt L C)) → next ≡ Relay a
           → LeavesLink (link_of a.value.exchange) a.value.lease settled)
-          → TurnedCounts state start_at (0 + tasks) (1 + ends) s client' left [] settled
+          → TurnedCounts state start_at (0 + tasks) (1 + ends) (opened_to s log') client' left []
+          settled
       relay_failed why is settled leaves =
           over_by (goes_by (step.Failed why) is) settled
-          (leaves (turned t.attempt t.exchange) t.stands)
+          (leaves (turned t.attempt t.exchange t.context) t.stands)
 
   -- ---- a turn, whatever links were handed back before
 
@@ -724,39 +732,3 @@ module _ {L C : Type 0} (state : L → LinkState) (start_at : L → LinkStart) w
       send_bounds s' on.passed x next work (tries_in lease) tasks ends on.run counts had
   send_turn_bounds s s' p w x (r ∷ own) context session link lease next work tasks ends run turn
       counts had = absurd run.holds
-
-  -- one of a phase that relays
-  pub relay_turn_bounds : (s : Start) (p : Passed) (w x : World) (own : List (Returned L))
-      (phase next : Phase L C) (tasks ends more_tasks more_ends : ℕ) → is_relaying phase ≡ true
-      → RunSoFar state start_at s p w own phase
-      → (PhaseCounts state start_at tasks ends s w.client w.ahead [] phase
-      → TurnedCounts state start_at more_tasks more_ends s x.client x.ahead [] next)
-      → PhaseCounts state start_at tasks ends s w.client w.ahead own phase
-      → TurnedCounts state start_at more_tasks more_ends s x.client x.ahead own next
-  relay_turn_bounds s p w x own ReadHead next tasks ends a b is run turn had =
-      absurd (true≢false (sym is))
-  relay_turn_bounds s p w x own (Connect context session tries) next tasks ends a b is run turn
-      had = absurd (true≢false (sym is))
-  relay_turn_bounds s p w x own (Unlinked context session attempts e) next tasks ends a b is run
-      turn had = absurd (true≢false (sym is))
-  relay_turn_bounds s p w x own (Prepare context session link lease) next tasks ends a b is run turn
-      had = absurd (true≢false (sym is))
-  relay_turn_bounds s p w x [] (Relay k) next tasks ends a b is run turn had = turn had
-  relay_turn_bounds s p w x (r ∷ own) (Relay k) next tasks ends a b is run turn had =
-      absurd run.holds
-  relay_turn_bounds s p w x own (Broken context session link lease keep e) next tasks ends a b is
-      run turn had =
-      absurd (true≢false (sym is))
-  relay_turn_bounds s p w x own (Again context session link lease keep e) next tasks ends a b is run
-      turn had =
-      absurd (true≢false (sym is))
-  relay_turn_bounds s p w x own (Fail link lease keep session e) next tasks ends a b is run turn
-      had =
-      absurd (true≢false (sym is))
-  relay_turn_bounds s p w x own (Close link lease keep outcome) next tasks ends a b is run turn had
-      =
-      absurd (true≢false (sym is))
-  relay_turn_bounds s p w x own (Answer session owed attempts) next tasks ends a b is run turn had =
-      absurd (true≢false (sym is))
-  relay_turn_bounds s p w x own (Ended outcome attempts) next tasks ends a b is run turn had =
-      absurd (true≢false (sym is))

@@ -1,6 +1,7 @@
 -- Turns of the connector that gave no link: another attempt follows, or the client is to be
 -- answered.
-use Rattle.std.proofs.Common.{◌≡◌, ◌≢◌, ◌⊎◌, ℕ, ◌≤◌, Bool, false, List, [], ◌∷◌, ◌++◌, length, Some, None, refl, sym, ap, subst, ◌∙◌, inl, inr, arith}
+use Rattle.std.proofs.Common.{◌≡◌, ◌≢◌, ◌⊎◌, ℕ, ◌≤◌, Bool, false, List, [], ◌∷◌, ◌++◌, length, drop, append-nil, Option, Some, refl, sym, ap, subst, ◌∙◌, inl, inr, arith}
+use Rattle.std.proofs.lemmas.List.{drop_at}
 use Rattle.std.specs.Global.{Box}
 use Rattle.relay_tasks.specs.Error.{error_of_fault, may_retry}
 use Rattle.relay_tasks.specs.declared.Error.{Error}
@@ -14,20 +15,25 @@ use Rattle.relay_tasks.specs.Head.{RequestHead}
 use Rattle.relay_links.specs.Connector.{IsConnectFault}
 use Rattle.relay_links.specs.Count.{last_count, Rose}
 use Rattle.relay_links.specs.Link.{LinkState, LinkStart}
+use Rattle.relay_core.specs.Past.{Origin}
 use Rattle.relay_session.specs.declared.session.HttpSession.{HttpSession}
 use Rattle.relay_hooks.specs.Call.{only}
 use Rattle.relay_hooks.specs.Standing.{Standing}
 use Rattle.relay_phases.specs.Order.{Station}
 use Rattle.relay_trying.specs.Trying.{CallsHook}
 use Rattle.relay_attempt.specs.Passed.{Passed}
-use Rattle.relay_attempt.specs.Order as exchange
+use Rattle.relay_hooked.specs.Calls.{Filtering, calls_behind}
+use Rattle.relay_hooked.specs.Exchange.{IsUnderWay}
+use Rattle.relay_hooked.specs.Head.{filtering_of}
+use Rattle.relay_hooked.specs.Order as exchange
+use Rattle.relay_hooked.specs.declared.exchange.HookedExchange.{HookedExchange}
 use Rattle.relay_request.specs.Calls.{log_of, seen_with}
 use Rattle.relay_request.specs.Relayable.{IsRelayable}
 use Rattle.relay_request.specs.Sent.{Sends}
 use Rattle.relay_request.specs.Endings.{IsInOrder, IsPartRelayed}
 use Rattle.relay_request.specs.Named.{IsNamed}
 use Rattle.relay_request.specs.Tries.{AreTries, IsRaised, MayTry, Refusal, fault_error, record_of, refusals_in, unlinked_record, upstream_error}
-use Rattle.relay_request.specs.Passed.{World, Start, opened_to, origin_of, TellsClient}
+use Rattle.relay_request.specs.Passed.{World, Start, HasFiltered, StandsIn, opened_to, origin_at, origin_of, TellsClient}
 use Rattle.relay_request.specs.Phases.{IsConnecting, LacksLink, RunSoFar}
 use Rattle.relay_request.specs.Turn.{Advances, HasCause, world_with}
 use Rattle.relay_request.specs.Uses.{OwesAnswer}
@@ -57,21 +63,48 @@ unconnected_tells s p w failed fits rose tells =
     (Rose-le w.connect_faults failed fits rose) refl refl (omega arith)
     (grew_same w.client w.client refl) tells
 
--- what passed of an exchange under way, by the mark of its link
-pub part_relayed : (s : Start) (p : Passed) (head sent : RequestHead) (reused : Bool)
-    (link : LinkState) (start : LinkStart) → IsRelayable head → Sends s.called head sent
-    → start.reused ≡ reused
-    → exchange.IsInOrder (origin_of s head sent reused) p link.ended → IsPartRelayed s p link start
-part_relayed s p head sent reused link start relayable sends same order = record {
-  head = head;
-  sent = sent;
-  relayable = relayable;
-  sends = sends;
-  cut = None;
-  order = subst (λ (r : Bool). exchange.IsInOrder (origin_of s head sent r) p link.ended)
-      (sym same) order;
-  next = tt;
+-- the calls behind those with which a log began stand in it
+pub stands_behind : (called began own : List LogEntry) → HasFiltered began → called ≡ began ++ own
+    → StandsIn called began (calls_behind began called)
+stands_behind called began own at_sent parts = record {
+  at_sent = at_sent;
+  after = [];
+  treats = refl;
+  called_are = parts
+      ∙ ap (λ (es : List LogEntry). began ++ es) (sym (append-nil (drop (length began) called)
+      ∙ ap (λ (l : List LogEntry). drop (length began) l) parts
+      ∙ drop_at began own (length began) refl));
 }
+
+-- those of an exchange under way stand in its log
+pub relaying_stands : {L : Type 0} (state : L → LinkState) (start_at : L → LinkStart) (o : Origin)
+    (p : Passed) (client : LinkState) (ahead : List ℕ) (log : List LogEntry) (x : HookedExchange L)
+    → HasFiltered o.called → IsUnderWay state start_at o p client ahead log x
+    → StandsIn log o.called (filtering_of o log x.down).calls
+relaying_stands state start_at o p client ahead log x at_sent under =
+    stands_behind log o.called under.holds.so_far.down.passed.own at_sent
+    under.holds.so_far.down.passed.parts
+
+-- what passed of an exchange by these calls, by the mark of its link
+pub part_relayed : (s : Start) (p : Passed) (head sent : RequestHead) (reused : Bool)
+    (link : LinkState) (start : LinkStart) (refused : Option Error) (f : Filtering)
+    (began : List LogEntry) → IsRelayable head → Sends s.called head sent
+    → start.reused ≡ reused → StandsIn s.called began f.calls
+    → exchange.IsInOrderWith refused f (origin_at s head sent reused began) p link.ended
+    → IsPartRelayed s p link start
+part_relayed s p head sent reused link start refused f began relayable sends same stands order =
+    record {
+      head = head;
+      sent = sent;
+      relayable = relayable;
+      sends = sends;
+      f = f;
+      began = began;
+      stands = stands;
+      refused = refused;
+      order = subst (λ (r : Bool). exchange.IsInOrderWith refused f (origin_at s head sent r began)
+          p link.ended) (sym same) order;
+    }
 
 module _ {L C : Type 0} (state : L → LinkState) (start_at : L → LinkStart) where
   -- memory was wanted before the connector was asked
@@ -282,16 +315,16 @@ module _ {L M K C : Type 0} (state : L → LinkState) (start_at : L → LinkStar
         ])
 
 -- what the turn moved: another attempt follows, or the client is to be answered
-pub refused_moved : {L C : Type 0} (state : L → LinkState) (start_at : L → LinkStart) (w x : World)
-    (context context' : C) (session session' : Box HttpSession)
+pub refused_moved : {L C : Type 0} (state : L → LinkState) (start_at : L → LinkStart)
+    (log : List LogEntry) (w x : World) (context context' : C) (session session' : Box HttpSession)
     (tries attempts : List AttemptRecord)
     (a : AttemptRecord) (e : Error) (next : Phase L C) (did : RunStep) → did ≡ step.Moved
     → attempts ≡ tries ++ a ∷ []
     → (next ≡ Connect context' session' attempts) ⊎ (next ≡ Unlinked context' session' attempts e)
-    → HasCause state start_at w x (Connect context session tries) next did
-refused_moved {L = L} {C = C} state start_at w x context context' session session' tries attempts
-    a e next did moved are follows =
-    subst (λ (k : RunStep). HasCause state start_at w x (Connect context session tries) next k)
+    → HasCause state start_at log w x (Connect context session tries) next did
+refused_moved {L = L} {C = C} state start_at log w x context context' session session' tries
+    attempts a e next did moved are follows =
+    subst (λ (k : RunStep). HasCause state start_at log w x (Connect context session tries) next k)
     (sym moved)
     (inr (elim follows [
       | inl is ↦ inl (record {

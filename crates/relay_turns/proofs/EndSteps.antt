@@ -225,14 +225,17 @@ module _ (s : Start) (log closed : List LogEntry) where
       IsInOrder.is_refusal answer error down front sent
   order_on p (IsInOrder.is_ahead why text owed front sent) =
       IsInOrder.is_ahead why text (owed_on p why text owed) front sent
-  order_on p (IsInOrder.is_exchange cut head out reused ends relayable sends order next) =
-      IsInOrder.is_exchange cut head out reused ends relayable sends order next
+  order_on p
+      (IsInOrder.is_exchange why f began head out reused ends relayable sends stands order) =
+      IsInOrder.is_exchange why f began head out reused ends relayable sends stands order
   order_on p (IsInOrder.is_unlinked head e has refused answers front sent) =
       absurd (unanswered e answers)
   order_on p (IsInOrder.is_unsent head keep raised e has refuses treated answers front sent) =
       absurd (unanswered e answers)
-  order_on p (IsInOrder.is_failure cut head out reused ends before raised e relayable sends order
-      next treated answers front) = absurd (unanswered e answers)
+  order_on p
+      (IsInOrder.is_failure why f began head out reused ends before raised e relayable sends stands
+      order treated answers front) =
+      absurd (unanswered e answers)
 
   tells_on : (p : Passed) (w : World) → TellsClient (opened_to s log) p w
       → TellsClient (closed_to s log closed) p w

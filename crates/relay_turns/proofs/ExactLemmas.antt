@@ -1,5 +1,7 @@
 -- Each cause excludes the others, so that where one stands the outcome is its own.
-use Rattle.std.proofs.Common.{◌≡◌, ◌≢◌, ℕ, ◌⊎◌, Bool, true, false, List, [], ◌∷◌, Option, Some, None, refl, sym, ap, subst, ◌∙◌, inl, inr, lit<, true≢false}
+use Rattle.std.proofs.Common.{◌≡◌, ◌≢◌, ℕ, ◌⊎◌, Bool, true, false, List, [], ◌∷◌, ◌++◌, Option, Some, None, refl, sym, ap, subst, ◌∙◌, inl, inr, lit<, true≢false}
+use Rattle.std.specs.Prelude.{All}
+use Rattle.std.proofs.lemmas.List.Elements.{All-head, All-tail}
 use Rattle.relay_tasks.specs.Head.{RequestHead}
 use Rattle.relay_tasks.specs.declared.Error.{Error}
 use Rattle.relay_links.specs.Count.{Rose}
@@ -15,21 +17,23 @@ use Rattle.relay_tasks.specs.declared.log.LogEntry.{LogEntry}
 use Rattle.relay_phases.specs.Order.{Accepts, Station}
 use Rattle.relay_phases.specs.Order.{Station as station}
 use Rattle.relay_attempt.specs.Agrees.{Agrees, AsksAlike}
-use Rattle.relay_attempt.specs.Order.{FailsFor}
-use Rattle.relay_attempt.specs.Order as order
 use Rattle.relay_attempt.specs.Passed.{Passed}
 use Rattle.relay_valid.specs.Unfit.{IsUnfit}
 use Rattle.relay_valid.specs.Valid.{AsksFor, AnswersWith, IsValid}
 use Rattle.relay_valid.proofs.AskedLemmas.{asks_head, asks_unrefused, valid_over}
-use Rattle.relay_valid.proofs.UnfitLemmas.{relayed_fit}
+use Rattle.relay_hooked.specs.Calls.{Filtering, IsFilter}
+use Rattle.relay_hooked.specs.Neutral.{AreNeutral, LeavesIt}
+use Rattle.relay_hooked.specs.Order.{FailsFor, order_of}
+use Rattle.relay_still.proofs.EarlyLemmas.{early_fit}
+use Rattle.relay_still.proofs.FitLemmas.{relayed_fit}
 use Rattle.relay_request.specs.Ahead.{IsOwedAhead, LetsGo, goes_on}
 use Rattle.relay_request.specs.Answer.{past_at}
 use Rattle.relay_request.specs.Relayable.{IsAccepted, IsConnect, IsRelayable, NamesUpgrade}
 use Rattle.relay_request.specs.Sent.{Sends, RefusesToSend}
-use Rattle.relay_request.specs.Passed.{World, Start, origin_of, asked}
+use Rattle.relay_request.specs.Passed.{World, Start, StandsIn, origin_at, origin_of, asked}
 use Rattle.relay_request.specs.Endings as endings
 use Rattle.relay_request.specs.Endings.{IsTurnedDown, IsLeftAlone, EndsUnlinked, EndsLinked, EndsAhead, IsEnded}
-use Rattle.relay_request.specs.Exact.{IsUnfinished, IsRefusal, IsLeft, IsMissed, IsExact, PassesHooks}
+use Rattle.relay_request.specs.Exact.{IsUnfinished, IsRefusal, IsLeft, IsMissed, IsExact, LeaveAll, PassesHooks, is_filter}
 use Rattle.relay_request.specs.declared.outcome.Outcome.{Outcome}
 use Rattle.relay_request.specs.declared.outcome.Outcome.TheVariants.{NoRequest, Refused, Served, TurnLimit, OutOfMemory}
 use Rattle.relay_request.specs.declared.record.AttemptRecord.{AttemptRecord}
@@ -284,18 +288,12 @@ record IsHeadOf (s : Start) (p : Passed) (head : RequestHead) : Type 0 where
 
 -- the head of an attempt that failed is that of the client's bytes
 failed_head : (s : Start) (p : Passed) (head sent : RequestHead) (reused : Bool)
-    {client link : LinkState} {start : LinkStart} {e : Error}
-    → FailsFor (origin_of s head sent reused) p client link start e → IsHeadOf s p head
-failed_head s p head sent reused (order.FailsFor.by_client o blames) =
-    record { framing = o.asks.framing; len = o.asks.len; has = o.asks.has }
-failed_head s p head sent reused (order.FailsFor.by_peer o lost blames) =
-    record { framing = o.asks.framing; len = o.asks.len; has = o.asks.has }
-failed_head s p head sent reused (order.FailsFor.by_refusal o refused) =
-    record { framing = o.asks.framing; len = o.asks.len; has = o.asks.has }
-failed_head s p head sent reused (order.FailsFor.by_writer o batch unasked read refused) =
-    record { framing = o.asks.framing; len = o.asks.len; has = o.asks.has }
-failed_head s p head sent reused (order.FailsFor.by_cut at o unasked read refused) =
-    record { framing = o.asks.framing; len = o.asks.len; has = o.asks.has }
+    (began : List LogEntry) {f : Filtering} {client link : LinkState} {start : LinkStart}
+    {e : Error}
+    → FailsFor f (origin_at s head sent reused began) p client link start e → IsHeadOf s p head
+failed_head s p head sent reused began why =
+    let asks = (order_of why).asks in
+    record { framing = asks.framing; len = asks.len; has = asks.has }
 
 -- the head of a request that had a link, and was not left unfinished
 linked_head : (s : Start) (p : Passed) (w : World) (link : LinkState) (start : LinkStart)
@@ -318,7 +316,7 @@ linked_head s p w link start keep told (Served None reuse) (inl ends) =
     )
 linked_head s p w link start keep told (Served (Some e) reuse) (inl ends) =
     let f = ends.failed in
-    let own = failed_head s (past_at p f.before) f.head f.sent start.reused f.why in
+    let own = failed_head s (past_at p f.before) f.head f.sent start.reused f.began f.why in
     inr (
       f.head,
       record { framing = own.framing; len = own.len; has = own.has; relayable = f.relayable },
@@ -334,38 +332,76 @@ one_head : {s : Start} {p : Passed} {a b : RequestHead}
 one_head {s} {p} {a} {b} x y =
     (HasRequest-unique (asked s p) a b x.framing y.framing x.len y.len x.has y.has).0
 
--- an unfit response is missed, where the request is finished
+-- what holds of all holds of those behind others, and of those in front of them
+rest_all : (P : LogEntry → Type 0) (front rest : List LogEntry) → All P (front ++ rest)
+    → All P rest
+rest_all P [] rest all = all
+rest_all P (e ∷ front) rest all =
+    rest_all P front rest (All-tail P e (front ++ rest) all)
+
+front_neutral : (calls after : List LogEntry) → LeaveAll (calls ++ after) → All IsFilter calls
+    → AreNeutral calls
+front_neutral [] after all filters = tt
+front_neutral (e ∷ calls) after all filters = (
+  All-head (λ x. is_filter x ≡ true → LeavesIt x) e (calls ++ after) all
+      (All-head IsFilter e calls filters),
+  front_neutral calls after
+      (All-tail (λ x. is_filter x ≡ true → LeavesIt x) e (calls ++ after) all)
+      (All-tail IsFilter e calls filters),
+)
+
+-- where the filters of a log changed nothing, those of an exchange that stand in it did not
+neutral_in : (called began calls : List LogEntry) → StandsIn called began calls
+    → All IsFilter calls → LeaveAll called → AreNeutral calls
+neutral_in called began calls stands filters all =
+    front_neutral calls stands.after
+    (rest_all (λ e. is_filter e ≡ true → LeavesIt e) began (calls ++ stands.after)
+    (subst (λ (l : List LogEntry). LeaveAll l) stands.called_are all)) filters
+
+-- an unfit response is missed, where the request is finished and its filters changed nothing
 exact_unfit : (s : Start) (p : Passed) (w : World) (link : LinkState) (start : LinkStart)
     (keep : Bool) (told : Option Error) (outcome : Outcome)
     → EndsLinked s p w link start keep told outcome → (head : RequestHead) → IsAccepted s p head
+    → LeaveAll s.called
     → ((sent : RequestHead) → Sends s.called head sent → AsksAlike head sent)
     → ((sent : RequestHead) → Sends s.called head sent → IsUnfit sent.method false p.got link.ended)
     → IsUnfinished outcome ⊎ IsMissed outcome
-exact_unfit s p w link start keep told NoRequest ends head accepted alike unfit = absurd ends
-exact_unfit s p w link start keep told (Refused error) ends head accepted alike unfit = absurd ends
-exact_unfit s p w link start keep told (Served None reuse) (inl ends) head accepted alike unfit =
+exact_unfit s p w link start keep told NoRequest ends head accepted left alike unfit = absurd ends
+exact_unfit s p w link start keep told (Refused error) ends head accepted left alike unfit =
+    absurd ends
+exact_unfit s p w link start keep told (Served None reuse) (inl ends) head accepted left alike
+    unfit =
     let asks = ends.relayed.order.asks in
     let own : IsAccepted s p ends.head =
     record { framing = asks.framing; len = asks.len; has = asks.has; relayable = ends.relayable } in
-    absurd (relayed_fit (origin_of s ends.head ends.sent start.reused) p link start ends.relayed
+    absurd (relayed_fit ends.f (origin_at s ends.head ends.sent start.reused ends.began) p link
+    start ends.relayed
+    (neutral_in s.called ends.began ends.f.calls ends.stands ends.relayed.order.are_filters left)
     (unfit ends.sent (subst (λ (h : RequestHead). Sends s.called h ends.sent)
     (sym (one_head accepted own)) ends.sends)))
-exact_unfit s p w link start keep told (Served None reuse) (inr ends) head accepted alike unfit =
+exact_unfit s p w link start keep told (Served None reuse) (inr ends) head accepted left alike
+    unfit =
     let asks = ends.early.order.asks in
     let own : IsAccepted s p ends.head =
     record { framing = asks.framing; len = asks.len; has = asks.has; relayable = ends.relayable } in
     let same = one_head accepted own in
-    absurd (ends.early.differs (subst (λ (h : RequestHead). AsksAlike h ends.sent) same
-    (alike ends.sent (subst (λ (h : RequestHead). Sends s.called h ends.sent) (sym same)
-    ends.sends))))
-exact_unfit s p w link start keep told (Served (Some e) reuse) (inl ends) head accepted alike unfit
-    =
+    let sends : Sends s.called head ends.sent =
+    subst (λ (h : RequestHead). Sends s.called h ends.sent) (sym same) ends.sends in
+    absurd (early_fit ends.f (origin_at s ends.head ends.sent start.reused ends.began) p link start
+    ends.early
+    (neutral_in s.called ends.began ends.f.calls ends.stands ends.early.order.are_filters left)
+    (subst (λ (h : RequestHead). AsksAlike h ends.sent) same (alike ends.sent sends))
+    (unfit ends.sent sends))
+exact_unfit s p w link start keep told (Served (Some e) reuse) (inl ends) head accepted left alike
+    unfit =
     inr (e, ap (λ (b : Bool). Served (Some e) b) ends.stays)
-exact_unfit s p w link start keep told (Served (Some e) reuse) (inr ends) head accepted alike unfit
-    =
+exact_unfit s p w link start keep told (Served (Some e) reuse) (inr ends) head accepted left alike
+    unfit =
     inr (e, ap (λ (b : Bool). Served (Some e) b) ends.stays)
-exact_unfit s p w link start keep told TurnLimit ends head accepted alike unfit = inl (inl refl)
-exact_unfit s p w link start keep told OutOfMemory ends head accepted alike unfit = inl (inr refl)
+exact_unfit s p w link start keep told TurnLimit ends head accepted left alike unfit =
+    inl (inl refl)
+exact_unfit s p w link start keep told OutOfMemory ends head accepted left alike unfit =
+    inl (inr refl)
 
 -- ---- valid exchanges
 
@@ -459,10 +495,29 @@ asks_still s p w head sent asks = record {
   stays = asks.stays;
 }
 
--- a valid request that had a link is served, where it is finished and no fault was met
+-- a valid exchange is so behind whatever calls it began
+valid_began : (s : Start) (p : Passed) (w : World) (head sent : RequestHead) (reused : Bool)
+    (began : List LogEntry) (link : LinkState) (start : LinkStart)
+    → IsValid (origin_of s head sent reused) p w.client link start
+    → IsValid (origin_at s head sent reused began) p w.client link start
+valid_began s p w head sent reused began link start valid = record {
+  asks = record {
+    request = valid.asks.request;
+    gives = valid.asks.gives;
+    is_request = valid.asks.is_request;
+    stays = valid.asks.stays;
+  };
+  answers = valid.answers;
+  agrees = valid.agrees;
+  client_faultless = valid.client_faultless;
+  link_faultless = valid.link_faultless;
+}
+
+-- a valid request that had a link is served, where it is finished, its filters changed nothing, and
+-- no fault was met
 whole_linked : (s : Start) (p : Passed) (w : World) (link : LinkState) (start : LinkStart)
     (keep : Bool) (told : Option Error) (outcome : Outcome)
-    → EndsLinked s p w link start keep told outcome → (head : RequestHead)
+    → EndsLinked s p w link start keep told outcome → (head : RequestHead) → LeaveAll s.called
     → ((keep : Bool) (e : Error) → ¬ (RefusesToSend s.called head keep e))
     → ((sent : RequestHead) → Sends s.called head sent → Agrees head sent)
     → AsksFor (origin_of s head head false) p w.client
@@ -470,39 +525,43 @@ whole_linked : (s : Start) (p : Passed) (w : World) (link : LinkState) (start : 
     → ¬ (Rose s.faults w.client.faults)
     → ¬ (Rose start.faults link.faults)
     → IsUnfinished outcome ⊎ ((reuse : Bool) × (outcome ≡ Served None reuse))
-whole_linked s p w link start keep told NoRequest ends head goes agree asks answers client faults =
-    absurd ends
-whole_linked s p w link start keep told (Refused error) ends head goes agree asks answers client
+whole_linked s p w link start keep told NoRequest ends head left goes agree asks answers client
     faults =
     absurd ends
-whole_linked s p w link start keep told (Served None reuse) ends head goes agree asks answers client
-    faults =
+whole_linked s p w link start keep told (Refused error) ends head left goes agree asks answers
+    client faults =
+    absurd ends
+whole_linked s p w link start keep told (Served None reuse) ends head left goes agree asks answers
+    client faults =
     inr (reuse, refl)
-whole_linked s p w link start keep told (Served (Some e) reuse) (inl ends) head goes agree asks
+whole_linked s p w link start keep told (Served (Some e) reuse) (inl ends) head left goes agree asks
     answers client faults =
     let f = ends.failed in
-    let own = failed_head s (past_at p f.before) f.head f.sent start.reused f.why in
+    let own = failed_head s (past_at p f.before) f.head f.sent start.reused f.began f.why in
     let same = asks_head (origin_of s head head false) p w.client f.head own.framing own.len asks
     own.has in
     let sends : Sends s.called head f.sent =
     subst (λ (h : RequestHead). Sends s.called h f.sent) same f.sends in
-    absurd (ends.invalid
-    (subst (λ (h : RequestHead). IsValid (origin_of s h f.sent start.reused) p w.client link start)
-    (sym same)
-    (valid_over (origin_of s head f.sent false) p w.client link start start.reused
+    let valid : IsValid (origin_of s head f.sent start.reused) p w.client link start =
+    valid_over (origin_of s head f.sent false) p w.client link start start.reused
     (asks_still s p w head f.sent asks) (answers f.sent sends)
-    (agree f.sent sends) client faults)))
-whole_linked s p w link start keep told (Served (Some e) reuse) (inr ends) head goes agree asks
+    (agree f.sent sends) client faults in
+    absurd (ends.invalid
+    (neutral_in s.called f.began f.f.calls f.stands (order_of f.why).are_filters left)
+    (subst (λ (h : RequestHead). IsValid (origin_at s h f.sent start.reused f.began) p w.client link
+    start) (sym same) (valid_began s p w head f.sent start.reused f.began link start valid)))
+whole_linked s p w link start keep told (Served (Some e) reuse) (inr ends) head left goes agree asks
     answers client faults =
     let r = ends.refused in
     absurd (goes keep r.raised (subst (λ (h : RequestHead). RefusesToSend s.called h keep r.raised)
     (asks_head (origin_of s head head false) p w.client r.head r.accepted.framing r.accepted.len
     asks
     r.accepted.has) r.refused))
-whole_linked s p w link start keep told TurnLimit ends head goes agree asks answers client faults =
+whole_linked s p w link start keep told TurnLimit ends head left goes agree asks answers client
+    faults =
     inl (inl refl)
-whole_linked s p w link start keep told OutOfMemory ends head goes agree asks answers client faults
-    =
+whole_linked s p w link start keep told OutOfMemory ends head left goes agree asks answers client
+    faults =
     inl (inr refl)
 
 -- lists of one and of none
@@ -521,8 +580,8 @@ module _ {L : Type 0} (state : L → LinkState) (start_at : L → LinkStart) whe
     no_request = λ none ended. exact_no_request s p w outcome ends none ended;
     refused = λ answer error down whole. exact_refused s p w outcome ends answer error down whole;
     not_relayed = λ e cause. exact_unrelayed s p w outcome ends e cause;
-    unfit = λ r head one accepted alike unfit. absurd (one_not_none one);
-    whole = λ head relayable lets goes agree asks answers faultless.
+    unfit = λ r head one accepted left alike unfit. absurd (one_not_none one);
+    whole = λ head relayable lets left goes agree asks answers faultless.
         whole_unlinked s p w outcome ends head relayable lets asks faultless.client
         (faultless.connector refl);
   }
@@ -548,15 +607,15 @@ module _ {L : Type 0} (state : L → LinkState) (start_at : L → LinkStart) whe
               | inl unfinished ↦ inl unfinished
               | inr one ↦ absurd (relayed_or_not one.0 one.1 cause)
             ];
-        unfit = λ q head one accepted alike unfit.
+        unfit = λ q head one accepted left alike unfit.
             exact_unfit s p w (state r.link) (start_at r.link) r.keep told outcome ends head
-            accepted alike
+            accepted left alike
             (λ sent sends. subst
             (λ (x : Returned L). IsUnfit sent.method false p.got (state x.link).ended)
             (sym (same_one one)) (unfit sent sends));
-        whole = λ head relayable lets goes agree asks answers faultless.
-            whole_linked s p w (state r.link) (start_at r.link) r.keep told outcome ends head goes
-            agree asks
+        whole = λ head relayable lets left goes agree asks answers faultless.
+            whole_linked s p w (state r.link) (start_at r.link) r.keep told outcome ends head left
+            goes agree asks
             (λ sent sends. answers r sent refl sends) faultless.client (faultless.link r refl);
       }
 

@@ -42,15 +42,15 @@ use Rattle.relay_closing.specs.Queued.{QueuesOnce}
 use Rattle.relay_core.specs.Past.{Origin}
 use Rattle.relay_sides.specs.Client.{BeginsBehind}
 use Rattle.relay_peer.specs.Body.{IsFrontOf}
-use Rattle.relay_attempt.specs.Order.{order_of, queued_in, text_of}
 use Rattle.relay_attempt.specs.Passed.{Passed}
+use Rattle.relay_hooked.specs.Order.{order_of, refused_of, text_of}
 use Rattle.relay_request.specs.Answer.{answer_to, owed_text, WaitsOf}
 use Rattle.relay_request.specs.Calls.{CallsNext, GoesOn, IsTreatedBefore, IsUnended, TakesNext, leads_at, log_of, seen_with}
 use Rattle.relay_request.specs.Closing.{IsHalfInformed}
 use Rattle.relay_request.specs.Endings.{IsInOrder, IsGiven, FailsToWrite, IsPartRelayed, Misses}
 use Rattle.relay_request.specs.Leaving.{Answers}
 use Rattle.relay_request.specs.Legs.{FailsAgain, RepeatsOn}
-use Rattle.relay_request.specs.Passed.{World, Start, based, called_to, closed_to, opened_to, origin_of, IsUnsent, IsUntouched, TellsClient}
+use Rattle.relay_request.specs.Passed.{World, Start, based, called_to, closed_to, opened_to, origin_at, origin_of, IsUnsent, IsUntouched, TellsClient}
 use Rattle.relay_request.specs.Phases.{IsBroken, IsCalm, IsGoing, IsLeased, LeavesAhead, LeavesSession, PhaseHolds, RunSoFar, waits_to_begin, written_out}
 use Rattle.relay_request.specs.Relayable.{IsAccepted}
 use Rattle.relay_request.specs.Sent.{IsAnswered, IsTreated}
@@ -66,12 +66,13 @@ use Rattle.relay_request.specs.declared.machine.Phase.TheVariants.{Again, Broken
 use Rattle.relay_request.specs.declared.outcome.Outcome.TheVariants as outcome
 use Rattle.relay_turns.proofs.AgainLemmas.{IsUnqueued, as_begun_before, as_begun_parts, based_begins, begins_accepted, begins_any, out_same, reads_out, shown_out, unqueued_parts}
 use Rattle.relay_turns.proofs.AnswerSteps.{ends_missed}
-use Rattle.relay_turns.proofs.CutLemmas.{at_written, cut_at}
+use Rattle.relay_turns.proofs.CutLemmas.{at_written, queued_in}
 use Rattle.relay_request.proofs.NamedLemmas.{TellsSame, tells_same}
 use Rattle.relay_turns.proofs.OpenHead.{exchange_open}
 use Rattle.relay_turns.proofs.OpenSteps.{begins_on, called_accepted, called_tells, closed_accepted, closed_tells, left_on, once_goes_on, once_open, once_request, stands_first, stays_connecting, wrote_on}
 use Rattle.relay_turns.proofs.OverLemmas.{begins_anew, made_as, over_as}
 use Rattle.relay_turns.proofs.PrepareSteps.{leased_on}
+use Rattle.relay_turns.proofs.StandsLemmas.{stands_more}
 use Rattle.relay_request.proofs.TreatLemmas.{refuses_on, sends_on, still_open, unended_more}
 
 -- ---- what waits
@@ -192,6 +193,9 @@ half_informed state start_at s p w link session lease keep e (IsBroken.in_exchan
       sends = l.sends;
       before = l.before;
       raised = e;
+      f = l.f;
+      began = l.began;
+      stands = l.stands;
       why = l.why;
       part = left_front s p w.client w.ahead (state link) (start_at link) session e l;
       left = left_waits s p w.client w.ahead (state link) (start_at link) session e l some;
@@ -208,16 +212,18 @@ pub leaves_part : (s : Start) (p : Passed) (client : LinkState) (ahead : List �
     (start : LinkStart) (session : HttpSession) (e : Error)
     → LeavesSession s p client ahead link start session e → IsPartRelayed s p link start
 leaves_part s p client ahead link start session e l =
-    let o = origin_of s l.head l.sent start.reused in
+    let o = origin_at s l.head l.sent start.reused l.began in
     let front = left_front s p client ahead link start session e l in
     record {
       head = l.head;
       sent = l.sent;
       relayable = l.relayable;
       sends = l.sends;
-      cut = _;
-      order = at_written _ o p l.before link.ended (order_of l.why) front;
-      next = cut_at o p l.before client link start e l.why front;
+      f = l.f;
+      began = l.began;
+      stands = l.stands;
+      refused = refused_of l.why;
+      order = at_written _ l.f o p l.before link.ended (order_of l.why) front;
     }
 
 -- what passed in an attempt that failed is that, or nothing did
@@ -269,14 +275,15 @@ some_waits waits (x ∷ xs) is some = omega arith
 pub part_order : (s : Start) (p : Passed) (link : LinkState) (start : LinkStart)
     → IsPartRelayed s p link start → IsInOrder s p
 part_order s p link start part =
-    IsInOrder.is_exchange part.cut part.head part.sent _ _ part.relayable part.sends part.order
-    part.next
+    IsInOrder.is_exchange part.refused part.f part.began part.head part.sent _ _ part.relayable
+    part.sends part.stands part.order
 
 -- and the client's head is open no more
 pub part_closed : (s : Start) (p : Passed) (w : World) (link : LinkState) (start : LinkStart)
     → IsPartRelayed s p link start → IsUntouched s p w
 part_closed s p w link start part = λ open_head.
-    absurd (exchange_open part.cut s p part.head part.sent _ _ part.order open_head)
+    absurd (exchange_open part.refused part.f s p part.head part.sent _ part.began _ part.order
+    open_head)
 
 module _ {L C : Type 0} (state : L → LinkState) (start_at : L → LinkStart)
     (s : Start) (p : Passed) (w : World) (link : L) (lease : Lease)
@@ -363,6 +370,9 @@ session_on s these those e more is p client ahead link start session left raised
       relayable = l.relayable;
       sends = sends_on these those e more is l.sends;
       before = l.before;
+      f = l.f;
+      began = l.began;
+      stands = stands_more these those e l.began l.f.calls more is l.stands;
       why = l.why;
       answers = ap (λ (w : Writing). w.request) same ∙ l.answers;
       holds = subst (λ (w : Writing). Holds w (queued_in (order_of l.why)) p.written) (sym same)
@@ -498,6 +508,9 @@ closed_session s log closed p client ahead link start session raised l = record 
   relayable = l.relayable;
   sends = l.sends;
   before = l.before;
+  f = l.f;
+  began = l.began;
+  stands = l.stands;
   why = l.why;
   answers = l.answers;
   holds = l.holds;
@@ -548,6 +561,9 @@ module _ {L C : Type 0} (state : L → LinkState) (start_at : L → LinkStart) (
             raised = raised;
             treated = v.was;
             told = told;
+            f = l.f;
+            began = l.began;
+            stands = l.stands;
             why = l.why;
             over = over_as (closed_to s log closed) w.client raised treated log session.value v
                 l.broken (rw l.is_left refl) (length (tries_in lease)) made stops;
@@ -756,8 +772,8 @@ module _ {L C M K : Type 0} (state : L → LinkState) (start_at : L → LinkStar
         let given = given_ahead session.value.writing (request_of l.head)
         (queued_in (order_of l.why)) p.written l.answers l.holds
         (unqueued_parts session.value.writing (as_begun_parts session.value begun).1) in
-        FailsAgain.in_exchange l.head l.sent raised l.relayable l.sends is_treated l.before l.why
-        given.at given.text kept
+        FailsAgain.in_exchange l.head l.sent raised l.relayable l.sends is_treated l.before l.f
+        l.began l.stands l.why given.at given.text kept
     fails_again (IsBroken.ahead_of_it l) =
         FailsAgain.ahead_of_it l.connecting.head raised l.connecting.accepted l.why is_treated
         (subst (λ (b : Bool). IsHandedOut (state link) (start_at link) b) (sym l.fresh.marked)

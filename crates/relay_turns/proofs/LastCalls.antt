@@ -6,16 +6,21 @@
 --   owing_logged .. come_logged the log is in order
 --   owing_on                    what a request owes its client was written, or waits
 --   answered_owing              its error was answered
---   finished_come               its exchange finished
+--   turned_calls                a turn of its exchange
+--   going_calls .. finished_come
+--                               it goes on, failed, or finished
 use Rattle.std.specs.Global.{Box}
-use Rattle.std.proofs.Common.{◌≡◌, ◌⊎◌, ℕ, Bool, true, false, not, ◌&&◌, ◌||◌, List, [], ◌∷◌, ◌++◌, length, arith, Option, None, Some, refl, sym, ap, subst, ◌∙◌, true≢false, inl, inr}
+use Rattle.std.proofs.Common.{◌≡◌, ℕ, Bool, true, false, not, ◌&&◌, ◌||◌, List, [], ◌∷◌, ◌++◌, drop, length, arith, Option, None, Some, refl, sym, ap, subst, ◌∙◌, true≢false, inl, inr}
 use Rattle.std.specs.Prelude.{unwrap_or}
 use Rattle.std.proofs.lemmas.List.Folds.{list_any-append}
 use Rattle.std.specs.List.{list_any}
+use Rattle.std.proofs.lemmas.List.{drop_at}
 use Rattle.relay_tasks.specs.Head.{new_request}
 use Rattle.relay_tasks.specs.Hooks.{same_hook}
 use Rattle.relay_tasks.specs.declared.Error.{Error}
 use Rattle.relay_tasks.specs.declared.ErrorSource.TheVariants.{Downstream}
+use Rattle.relay_tasks.specs.declared.error.Fail.{Fail as Why}
+use Rattle.relay_tasks.specs.declared.error.Fail.TheVariants as fail
 use Rattle.relay_tasks.specs.declared.Fault.{Fault}
 use Rattle.relay_tasks.specs.declared.hook.Hook.{Hook}
 use Rattle.relay_tasks.specs.declared.hook.Hook.TheVariants as hook
@@ -34,14 +39,21 @@ use Rattle.relay_phases.specs.Order.{Accepts, Station}
 use Rattle.relay_phases.specs.Order.{Station as station}
 use Rattle.relay_phases.proofs.OrderLemmas.{Accepts-one}
 use Rattle.relay_closing.specs.Closes.{logged_in}
-use Rattle.relay_closing.specs.Place.{station_of as closing_at}
+use Rattle.relay_closing.specs.Place.{may_finish, station_of as closing_at}
 use Rattle.relay_closing.specs.declared.place.Cause.TheVariants as cause
 use Rattle.relay_closing.specs.declared.place.End.{End}
 use Rattle.relay_closing.specs.declared.place.Place.{Place}
 use Rattle.relay_closing.specs.declared.place.Place.TheVariants as closing
 use Rattle.relay_closing.specs.declared.place.Stage.{Stage}
 use Rattle.relay_closing.specs.declared.place.Stage.TheVariants as stage
-use Rattle.relay_request.specs.Calls.{CallsSoFar, BreaksAt, CameIn, CountsCalls, EndsBy, HasAnswered, HasClosed, HasCome, HasFinished, IsBreaking, IsLackingCalls, IsLogged, IsOpening, IsOwing, IsRelayingCalls, IsUnended, KeepsCalls, KeepsValue, Owing, OwesIn, ShowsSame, StandsAt, StandsBy, closed_with, ended_with, log_of, seen_with, station_at, treated_at}
+use Rattle.relay_trying.specs.Trying.{may_break}
+use Rattle.relay_core.proofs.BoolLemmas.{decide}
+use Rattle.relay_filters.specs.Hooked.{Walks, is_lost as lost_by}
+use Rattle.relay_filters.specs.Segments.{InSegments}
+use Rattle.relay_hooked.specs.Calls.{calls_behind}
+use Rattle.relay_hooked.specs.Stations.{Lands, MayFail, Relays}
+use Rattle.relay_hooked.proofs.StationLemmas.{come_in_order}
+use Rattle.relay_request.specs.Calls.{CallsSoFar, BreaksAt, BreaksOff, EntersCalls, CameIn, CountsCalls, EndsBy, HasAnswered, HasClosed, HasCome, HasFinished, IsBreaking, IsLackingCalls, IsLogged, IsOpening, IsOwing, IsRelayingCalls, IsUnended, KeepsValue, Owing, OwesIn, ShowsSame, StandsAt, StandsBy, closed_with, ended_with, log_of, seen_with, station_at, treated_at}
 use Rattle.relay_request.specs.ClosingHooks.{failed_with, stays_alive}
 use Rattle.relay_request.specs.Endings.{error_of}
 use Rattle.relay_request.specs.Leaving.{WritesAhead}
@@ -60,9 +72,10 @@ use Rattle.relay_request.specs.declared.owed.Owed.{Owed}
 use Rattle.relay_request.specs.declared.owed.Owed.TheVariants as owing
 use Rattle.relay_request.specs.declared.record.AttemptRecord.{AttemptRecord}
 use Rattle.relay_request.specs.declared.work.Work.{Work}
-use Rattle.relay_request.specs.Relaying.{is_relaying}
+use Rattle.relay_request.specs.Turn.{is_over}
 use Rattle.relay_request.specs.Tries.{fault_error, tries_in}
-use Rattle.relay_request.proofs.CallLemmas.{never_again, never_viewed, none_logged, opening_logged, views_on, walk_further}
+use Rattle.relay_request.proofs.CallLemmas.{never_again, never_viewed, none_logged, opening_logged, walk_further}
+use Rattle.relay_request.proofs.FilterLemmas.{order_past, unended_past, walks_past}
 
 -- ---- what `logging` was told
 
@@ -548,6 +561,220 @@ counted_still old mid new work same counts =
       grows = record { rest = counts.grows.rest; joined = counts.grows.joined ∙ sym same };
     }
 
+-- ---- a turn of an exchange
+
+-- where messages are relayed a request may end
+finish_at : (here : Station) → Relays here → may_finish here ≡ true
+finish_at here (inl is) = ap (λ (at : Station). may_finish at) is
+finish_at here (inr (inl is)) = ap (λ (at : Station). may_finish at) is
+finish_at here (inr (inr is)) = ap (λ (at : Station). may_finish at) is
+
+-- and where the error of an attempt may be told it may be treated
+break_at : (here : Station) → MayFail here → may_break here ≡ true
+break_at here (inl is) = ap (λ (at : Station). may_break at) is
+break_at here (inr (inl is)) = ap (λ (at : Station). may_break at) is
+break_at here (inr (inr (inl is))) = ap (λ (at : Station). may_break at) is
+break_at here (inr (inr (inr (inl is)))) = ap (λ (at : Station). may_break at) is
+break_at here (inr (inr (inr (inr is)))) = ap (λ (at : Station). may_break at) is
+
+-- a side that is not lost leads to where an error may be told
+lands_failing : (stopped : Option Why) (here : Station) → lost_by stopped ≡ false
+    → Lands stopped here → MayFail here
+lands_failing None here alive relays = inr (inr relays)
+lands_failing (Some (fail.Error error)) here alive may = may
+lands_failing (Some fail.OutOfMemory) here alive lands = absurd (true≢false alive)
+
+-- and one that goes on to where messages are relayed
+lands_relaying : (stopped : Option Why) (here : Station) → stopped ≡ None → Lands stopped here
+    → Relays here
+lands_relaying stopped here none lands =
+    subst (λ (o : Option Why). Lands o here) none lands
+
+-- the calls behind those with which a log began are all that follow them
+pub calls_are : (log began own : List LogEntry) → log ≡ began ++ own
+    → log ≡ began ++ calls_behind began log
+calls_are log began own parts =
+    parts
+    ∙ ap (λ (es : List LogEntry). began ++ es)
+    (sym (ap (λ (l : List LogEntry). drop (length began) l) parts
+    ∙ drop_at began own (length began) refl))
+
+module _ {L C M K : Type 0} (allows : Standing → LogEntry → Type 0) (mark_of : C → ℕ) where
+  -- the calls so far behind a turn of an exchange: they walk to where its session and its context
+  -- stand, but where memory was wanted in a hook, and come in order up to where its side leads
+  pub record IsTurnedCalls (calls : Calls M K C) (a : Attempt L C) : Type 0 where
+    pub from : Standing
+    pub to : Standing
+    pub walks : Walk allows from (log_of calls) to
+    pub stands : lost_by a.exchange.down.stopped ≡ false
+        → to ≡ standing None false (moment (seen_with calls a.exchange.down.inner.session)
+        (mark_of a.context))
+    pub here : Station
+    pub order : Accepts station.accepted (log_of calls) here
+    pub lands : Lands a.exchange.down.stopped here
+    pub unended : IsUnended (log_of calls)
+    pub linked : calls.at ≡ at.Linked
+
+  -- those of a turn lead on from those before it
+  turned_by : (calls mid : Calls M K C) (a b : Attempt L C) (began : List LogEntry)
+      (here : Station) (was lost : Bool) → was ≡ false → lost_by b.exchange.down.stopped ≡ lost
+      → Walks allows was lost (seen_with calls a.exchange.down.inner.session) (mark_of a.context)
+      (seen_with mid b.exchange.down.inner.session) (mark_of b.context)
+      → mid.at ≡ calls.at → Accepts station.accepted (log_of mid) here
+      → Lands b.exchange.down.stopped here → IsRelayingCalls allows mark_of calls a
+      → IsTurnedCalls mid b
+  turned_by calls mid a b began here false false was is w stands order lands so_far = record {
+    from = so_far.from;
+    to = standing None false (moment (seen_with mid b.exchange.down.inner.session)
+        (mark_of b.context));
+    walks = walks_past allows so_far.from (log_of calls) w.es (log_of mid)
+        (standing None false (moment (seen_with calls a.exchange.down.inner.session)
+        (mark_of a.context)))
+        (standing None false (moment (seen_with mid b.exchange.down.inner.session)
+        (mark_of b.context))) w.log so_far.walks w.walk;
+    stands = λ alive. refl;
+    here = here;
+    order = order;
+    lands = lands;
+    unended = unended_past (log_of calls) w.es (log_of mid) w.log so_far.unended w.plain;
+    linked = stands ∙ so_far.linked;
+  }
+  turned_by calls mid a b began here false true was is w stands order lands so_far = record {
+    from = so_far.from;
+    to = w.to;
+    walks = walks_past allows so_far.from (log_of calls) w.es (log_of mid)
+        (standing None false (moment (seen_with calls a.exchange.down.inner.session)
+        (mark_of a.context))) w.to w.log so_far.walks w.walk;
+    stands = λ alive. absurd (true≢false (sym is ∙ alive));
+    here = here;
+    order = order;
+    lands = lands;
+    unended = unended_past (log_of calls) w.es (log_of mid) w.log so_far.unended w.plain;
+    linked = stands ∙ so_far.linked;
+  }
+  turned_by calls mid a b began here true lost was is w stands order lands so_far =
+      absurd (true≢false was)
+
+  -- a turn of an exchange that began behind those calls enters its calls in order
+  pub turned_calls : (calls mid : Calls M K C) (a b : Attempt L C) (began own : List LogEntry)
+      → log_of mid ≡ began ++ own → Accepts station.accepted began station.sent
+      → InSegments b.exchange.down.of_head b.exchange.down.stopped
+      (calls_behind began (log_of mid))
+      → EntersCalls allows mark_of (lost_by a.exchange.down.stopped)
+      (lost_by b.exchange.down.stopped) calls a.exchange.down.inner.session a.context mid
+      b.exchange.down.inner.session b.context
+      → IsRelayingCalls allows mark_of calls a → IsTurnedCalls mid b
+  turned_calls calls mid a b began own parts at_sent segments enters so_far =
+      let leads = come_in_order b.exchange.down.of_head b.exchange.down.stopped
+      (calls_behind began (log_of mid)) station.sent (inl refl) segments in
+      turned_by calls mid a b began leads.to (lost_by a.exchange.down.stopped)
+      (lost_by b.exchange.down.stopped) so_far.alive refl enters.walks enters.stands
+      (order_past began (calls_behind began (log_of mid)) (log_of mid) station.sent leads.to
+      (calls_are (log_of mid) began own parts) at_sent leads.order) leads.lands so_far
+
+  -- the log is in order
+  pub turned_logged : (calls : Calls M K C) (a : Attempt L C) → IsTurnedCalls calls a
+      → (at : Station) × IsLogged allows (log_of calls) at
+  turned_logged calls a t =
+      (t.here, record { from = t.from; to = t.to; walks = t.walks; order = t.order })
+
+  -- they walk to where the session and the context stand
+  walks_there : (calls : Calls M K C) (a : Attempt L C) → IsTurnedCalls calls a
+      → lost_by a.exchange.down.stopped ≡ false
+      → (from : Standing) × Walk allows from (log_of calls)
+      (standing None false (moment (seen_with calls a.exchange.down.inner.session)
+      (mark_of a.context)))
+  walks_there calls a t alive = (
+    t.from,
+    subst (λ (to : Standing). Walk allows t.from (log_of calls) to) (t.stands alive) t.walks,
+  )
+
+  -- the exchange goes on
+  pub going_calls : (calls : Calls M K C) (a : Attempt L C) → IsTurnedCalls calls a
+      → a.exchange.down.stopped ≡ None → IsRelayingCalls allows mark_of calls a
+  going_calls calls a t none =
+      let alive : lost_by a.exchange.down.stopped ≡ false =
+      ap (λ (o : Option Why). lost_by o) none in
+      let there = walks_there calls a t alive in
+      record {
+        from = there.0;
+        walks = there.1;
+        here = t.here;
+        order = t.order;
+        relays = lands_relaying a.exchange.down.stopped t.here none t.lands;
+        alive = alive;
+        unended = t.unended;
+        linked = t.linked;
+      }
+
+  -- it failed, and its error is to be treated
+  pub failing_calls : (calls : Calls M K C) (a : Attempt L C) (error : Error)
+      → IsTurnedCalls calls a → lost_by a.exchange.down.stopped ≡ false
+      → IsBreaking allows mark_of calls a.context a.exchange.down.inner.session error
+  failing_calls calls a error t alive =
+      let there = walks_there calls a t alive in
+      record {
+        from = there.0;
+        walks = there.1;
+        at = t.here;
+        order = t.order;
+        breaks = subst (λ (k : At K C). BreaksAt k (log_of calls) error t.here) (sym t.linked)
+            (break_at t.here (lands_failing a.exchange.down.stopped t.here alive t.lands));
+        again = never_again calls.at a.exchange.down.inner.session t.here
+            (ap (λ (k : At K C). treated_at k) t.linked);
+        viewed = never_viewed calls.at a.exchange.down.inner.session (log_of calls) error
+            (ap (λ (k : At K C). treated_at k) t.linked);
+        unended = t.unended;
+      }
+
+  -- what a failed exchange left
+  pub off_calls : (calls : Calls M K C) (a : Attempt L C) (next : Phase L C)
+      → BreaksOff a.context a.exchange.down.inner.session next → IsTurnedCalls calls a
+      → (lost_by a.exchange.down.stopped ≡ true → is_over next ≡ true)
+      → CallsSoFar allows mark_of calls next
+  off_calls calls a ReadHead off t lost = absurd off
+  off_calls calls a (Connect context session tries) off t lost = absurd off
+  off_calls calls a (Unlinked context session attempts error) off t lost = absurd off
+  off_calls calls a (Prepare context session link lease) off t lost = absurd off
+  off_calls calls a (Relay k) off t lost = absurd off
+  off_calls calls a (Broken context session link lease keep error) off t lost =
+      let alive : lost_by a.exchange.down.stopped ≡ false =
+      elim (decide (lost_by a.exchange.down.stopped)) [
+        | inl gone ↦ absurd (true≢false (sym (lost gone)))
+        | inr kept ↦ kept
+      ] in
+      subst (λ (c : C). IsBreaking allows mark_of calls c session.value error) (sym off.0)
+      (subst (λ (h : HttpSession). IsBreaking allows mark_of calls a.context h error) (sym off.1)
+      (failing_calls calls a error t alive))
+  off_calls calls a (Again context session link lease keep error) off t lost = absurd off
+  off_calls calls a (Fail link lease keep session error) off t lost = absurd off
+  off_calls calls a (Close link lease keep came) off t lost =
+      subst (λ (o : Outcome). HasCome allows mark_of calls o) (sym off) (turned_logged calls a t)
+  off_calls calls a (Answer session owed attempts) off t lost = absurd off
+  off_calls calls a (Ended came attempts) off t lost = absurd off
+
+  -- it finished: the end begins there
+  pub finished_come : (calls new : Calls M K C) (a : Attempt L C) (came : Outcome)
+      → HasFinished a calls new came → IsTurnedCalls calls a → a.exchange.down.stopped ≡ None
+      → HasCome allows mark_of new came
+  finished_come calls new a came f t none =
+      let there = walks_there calls a t (ap (λ (o : Option Why). lost_by o) none) in
+      subst (λ (c : Calls M K C). HasCome allows mark_of c came) (sym f.calls)
+      (subst (λ (o : Outcome). HasCome allows mark_of
+      (closed_with (record calls {
+        at = at.Closing a.context (closing.At (stage.Ending cause.Finished));
+      }) a.exchange.down.inner.session None) o) (sym f.served) (record {
+        from = there.0;
+        walks = there.1;
+        start = t.here;
+        begins = finish_at t.here (lands_relaying a.exchange.down.stopped t.here none t.lands);
+        order = t.order;
+        logged = unended_unlogged (log_of calls) t.unended;
+        alive = unlogged_alive (log_of calls) (unended_unlogged (log_of calls) t.unended);
+        begun = t.unended;
+        error_is = refl;
+      }))
+
 -- ---- where the end begins
 
 module _ {C M K : Type 0} (allows : Standing → LogEntry → Type 0) (mark_of : C → ℕ) where
@@ -624,33 +851,6 @@ module _ {C M K : Type 0} (allows : Standing → LogEntry → Type 0) (mark_of :
   lacking_ends c d context client left e o h =
       answered_ends c d context client left e o.from o.at o.walks o.order o.unended h
 
-  -- the exchange of an attempt finished: the end begins there
-  pub finished_come : {L : Type 0} (a : Attempt L C) (old new : Calls M K C) (came : Outcome)
-      → HasFinished a old new came → IsRelayingCalls allows mark_of old a
-      → HasCome allows mark_of new came
-  finished_come a old new came f r =
-      subst (λ (c : Calls M K C). HasCome allows mark_of c came) (sym f.calls)
-      (subst (λ (o : Outcome). HasCome allows mark_of
-      (closed_with (record old {
-        at = at.Closing a.context
-            (closing.At (stage.Ending cause.Finished));
-      })
-      f.client None) o) (sym f.served) (record {
-        from = r.from;
-        walks = walk_further allows (log_of old) r.from
-            (standing None false (moment (seen_with old r.first) (mark_of a.context)))
-            (standing None false (moment (seen_with old f.client) (mark_of a.context))) r.walks
-            (views_on old (mark_of a.context) (mark_of a.context) r.first f.client refl
-            (f.head ∙ sym r.head) r.unanswered);
-        start = station.sent;
-        begins = refl;
-        order = r.order;
-        logged = unended_unlogged (log_of old) r.unended;
-        alive = unlogged_alive (log_of old) (unended_unlogged (log_of old) r.unended);
-        begun = r.unended;
-        error_is = refl;
-      }))
-
   -- the calls so far of an attempt that failed, where hooks are shown the same of its session
   breaking_shown : (calls : Calls M K C) (context : C) (client left : HttpSession) (e : Error)
       → ShowsSame left client → IsBreaking allows mark_of calls context client e
@@ -689,7 +889,7 @@ module _ {L C M K : Type 0} (allows : Standing → LogEntry → Type 0) (mark_of
   calls_logged calls (Prepare context session link lease) so_far =
       opening_logged allows mark_of calls context session.value (tries_in lease) so_far.0
   calls_logged calls (Relay a) so_far = (
-    station.sent,
+    so_far.here,
     record { from = so_far.from; to = _; walks = so_far.walks; order = so_far.order },
   )
   calls_logged calls (Broken context session link lease keep error) so_far = (
@@ -720,85 +920,3 @@ module _ {L C M K : Type 0} (allows : Standing → LogEntry → Type 0) (mark_of
   ahead_calls calls context session link lease keep e next (WritesAhead.lost is) so_far =
       subst (λ (k : Phase L C). CallsSoFar allows mark_of calls k) (sym is)
       (calls_logged calls (Broken context session link lease keep e) so_far)
-
-  -- a turn of an exchange leaves the calls so far
-  kept_calls : (calls new : Calls M K C) (a : Attempt L C) (next : Phase L C)
-      → KeepsCalls a calls new next → IsRelayingCalls allows mark_of calls a
-      → CallsSoFar allows mark_of new next
-  kept_calls calls new a ReadHead keeps so_far = absurd keeps
-  kept_calls calls new a (Connect context session tries) keeps so_far = absurd keeps
-  kept_calls calls new a (Unlinked context session attempts error) keeps so_far = absurd keeps
-  kept_calls calls new a (Prepare context session link lease) keeps so_far = absurd keeps
-  kept_calls calls new a (Relay b) keeps so_far =
-      subst (λ (c : Calls M K C). IsRelayingCalls allows mark_of c b.value) (sym keeps.0) (record {
-        first = so_far.first;
-        from = so_far.from;
-        walks = subst (λ (c : C). Walk allows so_far.from (log_of calls)
-            (standing None false (moment (seen_with calls so_far.first) (mark_of c)))) (sym keeps.1)
-            so_far.walks;
-        order = so_far.order;
-        head = so_far.head ∙ sym keeps.2;
-        unanswered = so_far.unanswered;
-        unended = so_far.unended;
-        linked = so_far.linked;
-      })
-  kept_calls calls new a (Broken context session link lease keep error) keeps so_far =
-      subst (λ (c : Calls M K C). IsBreaking allows mark_of c context session.value error)
-      (sym keeps.0) (record {
-        from = so_far.from;
-        walks = walk_further allows (log_of calls) so_far.from
-            (standing None false (moment (seen_with calls so_far.first) (mark_of a.context)))
-            (standing None false (moment (seen_with calls session.value) (mark_of context)))
-            so_far.walks
-            (views_on calls (mark_of a.context) (mark_of context) so_far.first session.value
-            (ap mark_of keeps.1) (keeps.2 ∙ sym so_far.head) so_far.unanswered);
-        at = station.sent;
-        order = so_far.order;
-        breaks = subst (λ (a : At K C). BreaksAt a (log_of calls) error station.sent)
-            (sym so_far.linked) refl;
-        again = never_again calls.at session.value station.sent
-            (ap (λ (a : At K C). treated_at a) so_far.linked);
-        viewed = never_viewed calls.at session.value (log_of calls) error
-            (ap (λ (a : At K C). treated_at a) so_far.linked);
-        unended = so_far.unended;
-      })
-  kept_calls calls new a (Again context session link lease keep error) keeps so_far = absurd keeps
-  kept_calls calls new a (Fail link lease keep session error) keeps so_far = absurd keeps
-  kept_calls calls new a (Close link lease keep came) keeps so_far = by keeps
-    where
-      by : ((new ≡ calls) × (came ≡ outcome.OutOfMemory)) ⊎ HasFinished a calls new came
-          → HasCome allows mark_of new came
-      by (inl lost) =
-          subst (λ (c : Calls M K C). HasCome allows mark_of c came) (sym lost.0)
-          (subst (λ (o : Outcome). HasCome allows mark_of calls o) (sym lost.1) (
-            station.sent,
-            record { from = so_far.from; to = _; walks = so_far.walks; order = so_far.order },
-          ))
-      by (inr done) = finished_come allows mark_of a calls new came done so_far
-  kept_calls calls new a (Answer session owed attempts) keeps so_far = absurd keeps
-  kept_calls calls new a (Ended outcome attempts) keeps so_far = absurd keeps
-
-  pub relaying_calls : (calls new : Calls M K C) (phase next : Phase L C) → is_relaying phase ≡ true
-      → ((a : Box (Attempt L C)) → phase ≡ Relay a → KeepsCalls a.value calls new next)
-      → CallsSoFar allows mark_of calls phase → CallsSoFar allows mark_of new next
-  relaying_calls calls new ReadHead next is keeps so_far = absurd (true≢false (sym is))
-  relaying_calls calls new (Connect context session tries) next is keeps so_far =
-      absurd (true≢false (sym is))
-  relaying_calls calls new (Unlinked context session attempts error) next is keeps so_far =
-      absurd (true≢false (sym is))
-  relaying_calls calls new (Prepare context session link lease) next is keeps so_far =
-      absurd (true≢false (sym is))
-  relaying_calls calls new (Relay a) next is keeps so_far =
-      kept_calls calls new a.value next (keeps a refl) so_far
-  relaying_calls calls new (Broken context session link lease keep error) next is keeps so_far =
-      absurd (true≢false (sym is))
-  relaying_calls calls new (Again context session link lease keep error) next is keeps so_far =
-      absurd (true≢false (sym is))
-  relaying_calls calls new (Fail link lease keep session error) next is keeps so_far =
-      absurd (true≢false (sym is))
-  relaying_calls calls new (Close link lease keep outcome) next is keeps so_far =
-      absurd (true≢false (sym is))
-  relaying_calls calls new (Answer session owed attempts) next is keeps so_far =
-      absurd (true≢false (sym is))
-  relaying_calls calls new (Ended outcome attempts) next is keeps so_far = absurd
-      (true≢false (sym is))

@@ -1,5 +1,7 @@
 pub mod Tells
+pub mod StandsLemmas
 pub mod TryLemmas
+pub mod FilterSteps
 pub mod OpenHead
 pub mod SentLemmas
 pub mod CutLemmas
@@ -25,6 +27,7 @@ pub mod EndSteps
 pub mod LegLemmas
 pub mod TakenLemmas
 pub mod RefusalLemmas
+pub mod RelayingTurns
 pub mod TurnLemmas
 pub mod CountLemmas
 pub mod ExactLemmas

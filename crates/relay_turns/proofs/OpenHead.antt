@@ -4,10 +4,11 @@ use Rattle.relay_tasks.specs.Head.{RequestHead}
 use Rattle.relay_tasks.specs.declared.Error.{Error}
 use Rattle.relay_h1.specs.Verdict.{IsOpen}
 use Rattle.relay_h1.proofs.VerdictLemmas.{HasRequest-IsOpen, IsRefusedRequest-IsOpen}
-use Rattle.relay_tasks.specs.declared.task.HttpTask.{HttpTask}
-use Rattle.relay_attempt.specs.Order.{IsInOrderWith}
+use Rattle.relay_tasks.specs.declared.log.LogEntry.{LogEntry}
 use Rattle.relay_attempt.specs.Passed.{Passed}
-use Rattle.relay_request.specs.Passed.{Start, origin_of, asked}
+use Rattle.relay_hooked.specs.Calls.{Filtering}
+use Rattle.relay_hooked.specs.Order.{IsInOrderWith}
+use Rattle.relay_request.specs.Passed.{Start, origin_at, asked}
 use Rattle.relay_request.specs.Endings as endings
 use Rattle.relay_request.specs.Endings.{IsTurnedDown}
 
@@ -24,8 +25,9 @@ turns_down_open {bytes}
     HasRequest-IsOpen bytes head framing len has open_head
 
 -- the head of an exchange is open no more
-pub exchange_open : (cut : Option HttpTask) (s : Start) (p : Passed) (head sent : RequestHead)
-    (reused closed : Bool) → IsInOrderWith cut (origin_of s head sent reused) p closed
+pub exchange_open : (refused : Option Error) (f : Filtering) (s : Start) (p : Passed)
+    (head sent : RequestHead) (reused : Bool) (began : List LogEntry) (closed : Bool)
+    → IsInOrderWith refused f (origin_at s head sent reused began) p closed
     → IsOpen (asked s p) → ⊥
-exchange_open cut s p head sent reused closed order open_head =
+exchange_open refused f s p head sent reused began closed order open_head =
     HasRequest-IsOpen (asked s p) head order.asks.framing order.asks.len order.asks.has open_head

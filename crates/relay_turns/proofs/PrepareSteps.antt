@@ -5,10 +5,15 @@
 --   told_badly                 the application failed as it was told of the link
 --   sends_by, refuses_by       what became of the head
 --   link_lost .. ahead_broken  an attempt that ends ahead of its exchange
---   begun .. not_begun         its exchange
-use Rattle.std.proofs.Common.{◌≡◌, ℕ, Bool, false, true, List, [], Option, Some, None, refl, sym, ap, subst, ◌∙◌, inl, inr, arith, true≢false}
+--   begins_by .. lost_first    what begins an exchange: the filters of requests, or none
+--   held_calls .. lost_calls   the calls so far then
+--   begun .. not_held          its exchange
+--   begun_enters .. unbegun_run  what the beginning of one comes to
+--   begun_grows, once_grows    what is counted of the calls
+use Rattle.std.proofs.Common.{◌≡◌, ℕ, ◌+◌, ◌≤◌, Bool, false, true, List, [], ◌∷◌, ◌++◌, length, length-append, append-nil, append_assoc, Option, Some, None, refl, sym, ap, subst, ◌∙◌, inl, inr, arith, true≢false}
+use Rattle.std.proofs.lemmas.List.Elements.{All-nil}
 use Rattle.std.specs.Global.{Box}
-use Rattle.std.specs.Prelude.{◌↔◌, IsSome, IsTrue, Result, Ok, Err}
+use Rattle.std.specs.Prelude.{◌⊎◌, All, is_some, IsSome, IsTrue, Result, Ok, Err}
 use Rattle.relay_tasks.specs.declared.error.Error.{Error}
 use Rattle.relay_tasks.specs.declared.error.Fail.{Fail}
 use Rattle.relay_tasks.specs.declared.error.Fail.TheVariants as fail
@@ -17,7 +22,6 @@ use Rattle.relay_tasks.specs.declared.hook.Hook.{Hook}
 use Rattle.relay_tasks.specs.declared.hook.Hook.TheVariants as hook
 use Rattle.relay_tasks.specs.declared.log.LogEntry.{LogEntry}
 use Rattle.relay_tasks.specs.Hooks.{same_hook}
-use Rattle.relay_tasks.specs.Error.{IsMemoryOr}
 use Rattle.relay_tasks.specs.Head.{RequestHead}
 use Rattle.relay_links.specs.Link.{LinkState, LinkStart, IsHandedOut}
 use Rattle.relay_links.specs.Told.{Since}
@@ -25,7 +29,7 @@ use Rattle.relay_links.proofs.SinceLemmas.{Since-start}
 use Rattle.relay_h1.specs.Framing.{request_framing}
 use Rattle.relay_h1.specs.declared.framing.Framing.{Framing}
 use Rattle.relay_authority.specs.Stage.{Makes}
-use Rattle.relay_opening.proofs.ToldLemmas.{reads_truncated}
+use Rattle.relay_opening.proofs.ToldLemmas.{reads_done, reads_truncated}
 use Rattle.relay_session.specs.Front.{ends_with_head}
 use Rattle.relay_session.specs.Reading.{head_of, is_body_empty, RequestSoFar}
 use Rattle.relay_session.specs.declared.reading.Reading.{Reading}
@@ -35,28 +39,41 @@ use Rattle.relay_h1.specs.Verdict.{HasRequest}
 use Rattle.relay_session.specs.Response.{has_head}
 use Rattle.relay_session.specs.declared.writing.Writing.{Writing}
 use Rattle.relay_session.specs.declared.session.HttpSession.{HttpSession}
+use Rattle.relay_modules.specs.Module.{ModuleCall}
 use Rattle.relay_modules.specs.declared.seen.Seen.{Seen}
-use Rattle.relay_hooks.specs.Session.{request_head}
-use Rattle.relay_hooks.specs.Standing.{Standing}
+use Rattle.relay_modules.specs.declared.session.Session.{Session}
+use Rattle.relay_hooks.specs.Session.{moment, request_head}
+use Rattle.relay_hooks.specs.Standing.{Standing, standing}
+use Rattle.relay_calls.specs.Log.{Walk}
+use Rattle.relay_calls.proofs.LogLemmas.{Views-same}
 use Rattle.relay_phases.specs.Order.{Accepts, Station}
 use Rattle.relay_phases.specs.Order.{Station as station}
-use Rattle.relay_phases.specs.Turns.{QueuesNothing, Turns}
+use Rattle.relay_phases.specs.Turns.{QueuesNothing, ReadsNothing, Turns}
 use Rattle.relay_opening.specs.Told.{head_behind}
+use Rattle.relay_purging.specs.Told.{purges_in}
 use Rattle.relay_trying.specs.Trying.{FiltersHead, TellsConnected, may_break}
 use Rattle.relay_sides.specs.Client.{BeginsBehind}
+use Rattle.relay_sides.specs.Lent.{SameButHead}
+use Rattle.relay_filters.specs.Hooked.{WalksOut, WalksTo, seen_by, is_lost as lost_by}
+use Rattle.relay_filters.specs.Request.{LetsOn, PieceChain, Refused}
+use Rattle.relay_filters.specs.Response.{Adds, IsFilterCall}
 use Rattle.relay_core.specs.Past.{Origin}
-use Rattle.relay_attempt.specs.Exchange.{IsUnderWay, UpHolds}
 use Rattle.relay_attempt.specs.Passed.{Passed}
-use Rattle.relay_attempt.specs.declared.h1_exchange.H1Exchange.{H1Exchange}
-use Rattle.relay_attempt.specs.declared.h1_exchange.Unbegun.{Unbegun}
-use Rattle.relay_attempt.specs.Head.{IsRefusedFor, link_of}
-use Rattle.relay_request.specs.Calls.{CountsCalls, GoesOn, IsBreaking, IsLogged, IsOpening, IsRelayingCalls, IsUnended, TellsPeer, is_before, log_of, seen_with, station_at, treated_at}
+use Rattle.relay_hooked.specs.Begins.{CallsOnce, CannotPut, IsUnbegun, kept_piece}
+use Rattle.relay_hooked.specs.Exchange.{IsUnderWay}
+use Rattle.relay_hooked.specs.Head.{link_of}
+use Rattle.relay_hooked.specs.Sides.{PeerHolds}
+use Rattle.relay_hooked.specs.Stations.{Relays}
+use Rattle.relay_hooked.specs.declared.exchange.HookedExchange.{HookedExchange}
+use Rattle.relay_hooked.specs.declared.exchange.Unbegun.{Unbegun}
+use Rattle.relay_hooked.proofs.StationLemmas.{from_piece, piece_fails, piece_stays}
+use Rattle.relay_request.specs.Calls.{BeginsCalls, BegunBy, CountsCalls, GoesOn, GrowsCalls, IsBreaking, IsLogged, IsOpening, IsSendingCalls, IsUnended, TellsPeer, UnbegunBy, allowed_by, is_before, log_of, seen_with, station_at, treated_at}
 use Rattle.relay_request.specs.Named.{IsNamed}
 use Rattle.relay_request.specs.Preparing.{FiltersReady, MakesHead, Prepares, Settles, Unprepared}
-use Rattle.relay_request.specs.Sent.{Filters, Sends, RefusesToSend, SettlesFramed, asked_in, client_in, client_of, unframed}
+use Rattle.relay_request.specs.Sent.{FailsAt, Filters, Sends, ends_at, RefusesToSend, SettlesFramed, asked_in, client_in, client_of}
 use Rattle.relay_request.specs.Endings.{IsInOrder}
 use Rattle.relay_request.specs.Tries.{AreTries, tries_in}
-use Rattle.relay_request.specs.Passed.{asked, World, Start, begins_end, opened_to, origin_of, TellsClient, IsUnsent, IsUntouched}
+use Rattle.relay_request.specs.Passed.{asked, World, Start, HasFiltered, begins_end, opened_to, origin_at, origin_of, TellsClient, IsUnsent, IsUntouched}
 use Rattle.relay_request.specs.Phases.{IsBroken, IsConnecting, IsLeased, IsRelaying, LeavesAhead, PhaseHolds, RunSoFar}
 use Rattle.relay_request.specs.Turn.{Advances}
 use Rattle.relay_request.specs.declared.calls.At.{At}
@@ -64,16 +81,19 @@ use Rattle.relay_request.specs.declared.calls.At.TheVariants as at
 use Rattle.relay_request.specs.declared.calls.Calls.{Calls}
 use Rattle.relay_request.specs.declared.machine.Attempt.{Attempt}
 use Rattle.relay_request.specs.declared.machine.Lease.{Lease}
+use Rattle.relay_request.specs.declared.machine.Phase.{Phase}
 use Rattle.relay_request.specs.declared.machine.Phase.TheVariants.{Connect, Prepare, Relay, Close}
 use Rattle.relay_request.specs.declared.machine.Phase.TheVariants as phase
 use Rattle.relay_request.specs.declared.record.AttemptRecord.{AttemptRecord}
 use Rattle.relay_request.specs.declared.outcome.Outcome.TheVariants as outcome
 use Rattle.relay_request.specs.declared.work.Work.{Work}
-use Rattle.relay_turns.proofs.ConnectSteps.{no_limit, part_relayed}
-use Rattle.relay_request.proofs.CallLemmas.{breaks_more, breaks_same, logged_more, logged_same, none_called, one_called, order_more, relays_more, walks_more}
+use Rattle.relay_turns.proofs.ConnectSteps.{no_limit, part_relayed, relaying_stands}
+use Rattle.relay_turns.proofs.StandsLemmas.{ends_with}
+use Rattle.relay_request.proofs.CallLemmas.{breaks_more, breaks_same, logged_more, logged_same, none_called, one_called, order_more, sending_more, walks_more}
 use Rattle.relay_request.proofs.NamedLemmas.{TellsSame, tells_same, tells_still}
+use Rattle.relay_turns.proofs.FilterSteps.{head_past, named_past, purge_past, quiet_past, sends_past, tells_past, tries_past}
 use Rattle.relay_turns.proofs.OpenHead.{exchange_open}
-use Rattle.relay_turns.proofs.OpenSteps.{called_tells, called_tries, stays_connecting}
+use Rattle.relay_turns.proofs.OpenSteps.{begins_on, called_accepted, called_tells, called_tries, stays_connecting}
 use Rattle.relay_turns.proofs.SentLemmas.{client_is, never_unready}
 use Rattle.relay_request.proofs.TreatLemmas.{unended_more, untreated_more}
 
@@ -612,17 +632,29 @@ module _ {C M K : Type 0} (allows : Standing → LogEntry → Type 0) (mark_of :
         f.call.turn
 
     -- the head goes out
-    pub filtered_relays : {L : Type 0} → c.at ≡ at.Linked → d.at ≡ at.Linked
-        → (filtered : RequestHead)
+    pub filtered_sends : c.at ≡ at.Linked → d.at ≡ at.Linked → (filtered : RequestHead)
         → FiltersReady allows c client (mark_of context) d left (mark_of context') filtered
-        → (a : Attempt L C) → a.context ≡ context' → a.exchange.down.session ≡ left
-        → IsRelayingCalls allows mark_of d a
-    filtered_relays was is filtered f a same stays =
-        relays_more allows mark_of c d context context' client left tries
-        hook.UpstreamRequestFilter a is refl same stays
+        → IsSendingCalls allows mark_of d context' left
+    filtered_sends was is filtered f =
+        sending_more allows mark_of c d context context' client left tries
+        hook.UpstreamRequestFilter is refl
         (subst (λ (x : Station). Turns allows hook.UpstreamRequestFilter x station.sent
         QueuesNothing (seen_with c client) (mark_of context) (seen_with d left)
         (mark_of context')) (sym (ap (λ (a : At K C). station_at a) was)) f.call.turn) o
+
+    -- with the call of its filter last
+    pub filtered_ends : (filtered : RequestHead)
+        → FiltersReady allows c client (mark_of context) d left (mark_of context') filtered
+        → (order : Accepts station.accepted (log_of d) station.sent) → HasFiltered (log_of d)
+    filtered_ends filtered f order = record {
+      order = order;
+      last =
+          subst (λ (l : List LogEntry). ends_at hook.UpstreamRequestFilter l ≡ true)
+          (sym f.call.turn.calls.log)
+          (ends_with hook.UpstreamRequestFilter (log_of c) f.call.turn.e
+          (subst (λ (h : Hook). same_hook hook.UpstreamRequestFilter h ≡ true)
+          (sym f.call.turn.hook) refl));
+    }
 
     pub lost_logged : c.at ≡ at.Linked
         → MakesHead allows c client (mark_of context) d left (mark_of context')
@@ -667,6 +699,33 @@ module _ {M K X : Type 0} (allows : Standing → LogEntry → Type 0) (c d : Cal
     told_unended peer reused (Err fail.OutOfMemory) same =
         subst (λ (l : List LogEntry). IsUnended l) (sym same) open_to
 
+-- no purger is asked in the steps to the head
+module _ {M K X : Type 0} (allows : Standing → LogEntry → Type 0) (c d : Calls M K X)
+    (client left : HttpSession) (mark behind : ℕ)
+  where
+    filter_purges : (to : Station) → Turns allows hook.UpstreamRequestFilter station.linked to
+        QueuesNothing (seen_with c client) mark (seen_with d left) behind
+        → purges_in (log_of d) ≡ purges_in (log_of c)
+    filter_purges to turn =
+        ap (λ (l : List LogEntry). purges_in l) turn.calls.log
+        ∙ purge_past (log_of c) turn.e
+        (ap (λ (h : Hook). same_hook hook.PurgeResponseFilter h) turn.hook)
+
+    pub made_purges : (answer : Result RequestHead Fail)
+        → MakesHead allows c client mark d left behind answer
+        → purges_in (log_of d) ≡ purges_in (log_of c)
+    made_purges (Ok sent) made = filter_purges station.sent made.filters.call.turn
+    made_purges (Err (fail.Error e)) (Unprepared.unready same stays still readies) =
+        ap (λ (x : Calls M K X). purges_in (log_of x)) same
+    made_purges (Err (fail.Error e)) (Unprepared.unfiltered ready call) =
+        filter_purges station.broken call.call.turn
+    made_purges (Err (fail.Error e)) (Unprepared.unsettled filtered f settles) =
+        filter_purges station.sent f.call.turn
+    made_purges (Err fail.OutOfMemory) (inl same) =
+        ap (λ (l : List LogEntry). purges_in l) same
+    made_purges (Err fail.OutOfMemory) (inr (filtered, f)) =
+        filter_purges station.sent f.call.turn
+
 -- what is counted of the calls of a head that is not sent
 module _ {M K X : Type 0} (allows : Standing → LogEntry → Type 0) (c d : Calls M K X)
     (client left : HttpSession) (mark behind : ℕ) (work : Work) (none : work.called ≡ 0)
@@ -686,85 +745,458 @@ module _ {M K X : Type 0} (allows : Standing → LogEntry → Type 0) (c d : Cal
     lost_counts (inr (filtered, f)) =
         one_called c d work (omega (arith, none)) f.call.turn.e f.call.turn.calls.log
 
--- ---- the exchange
+-- ---- what begins an exchange
 
--- an exchange whose head has a framing is not begun for want of memory alone
-pub memory_alone : {L : Type 0} (head : RequestHead) (result : Result (H1Exchange L) (Unbegun L))
-    (left : Unbegun L) → result ≡ Err left
-    → (IsRefusedFor result (fail.Error unframed) ↔ (request_framing head ≡ None))
-    → IsMemoryOr unframed left.why → IsSome (request_framing head) → left.why ≡ fail.OutOfMemory
-memory_alone head result left is refused causes framed = by left.why refl causes
+-- calls of filters behind the head that is sent, and where they lead
+pub record LeadsOn (allows : Standing → LogEntry → Type 0) (ends : Station → Type 0) (old : Seen)
+    (mark : ℕ) (new : Seen) (behind : ℕ) : Type 0 where
+  pub walks : WalksTo allows old mark new behind
+  pub here : Station
+  pub order : Accepts station.sent walks.es here
+  pub stands : ends here
+
+-- the same, where memory was wanted
+pub record LeadsOut (allows : Standing → LogEntry → Type 0) (old : Seen) (mark : ℕ) (new : Seen)
+    : Type 0 where
+  pub walks : WalksOut allows old mark new
+  pub here : Station
+  pub order : Accepts station.sent walks.es here
+
+module _ (allows : Standing → LogEntry → Type 0) (old : Seen) (mark : ℕ) where
+  -- no call leads nowhere else
+  none_leads : LeadsOn allows Relays old mark old mark
+  none_leads = record {
+    walks = record {
+      es = [];
+      log = sym (append-nil old.log);
+      walk = Views-same (standing None false (moment old mark));
+      plain = All-nil IsFilterCall;
+    };
+    here = station.sent;
+    order = refl;
+    stands = inl refl;
+  }
+
+  module _ (new : Seen) where
+    -- no entry is new
+    none_leads_out : new.log ≡ old.log → LeadsOut allows old mark new
+    none_leads_out same = record {
+      walks = record {
+        es = [];
+        to = standing None false (moment old mark);
+        log = same ∙ sym (append-nil old.log);
+        walk = Views-same (standing None false (moment old mark));
+        plain = All-nil IsFilterCall;
+      };
+      here = station.sent;
+      order = refl;
+    }
+
+    module _ (behind : ℕ) where
+      -- the calls of a piece lead where they lead
+      pub adds_lead : (ends : Station → Type 0) (es : List LogEntry)
+          → Adds allows old mark new behind es → (to : Station) → Accepts station.sent es to
+          → ends to → LeadsOn allows ends old mark new behind
+      adds_lead ends es adds to order is = record {
+        walks = record { es = es; log = adds.log; walk = adds.walk; plain = adds.plain };
+        here = to;
+        order = order;
+        stands = is;
+      }
+
+      -- calls that lead somewhere do so where memory is wanted behind them
+      pub leads_out : (ends : Station → Type 0) → LeadsOn allows ends old mark new behind
+          → LeadsOut allows old mark new
+      leads_out ends l = record {
+        walks = record {
+          es = l.walks.es;
+          to = standing None false (moment new behind);
+          log = l.walks.log;
+          walk = l.walks.walk;
+          plain = l.walks.plain;
+        };
+        here = l.here;
+        order = l.order;
+      }
+
+-- the last call of a piece is one of a filter of requests, which failed with that error
+last_fails : (which : Hook) (log log' es front : List LogEntry) (last : LogEntry) (e : Error)
+    → log' ≡ log ++ es → es ≡ front ++ last ∷ [] → last.hook ≡ which → last.error ≡ Some e
+    → FailsAt which log' e
+last_fails which log log' es front last e more are is failed = record {
+  before = log ++ front;
+  last = last;
+  after = [];
+  called_are = more ∙ ap (λ (l : List LogEntry). log ++ l) are
+      ∙ sym (append_assoc log front (last ∷ []));
+  treats = refl;
+  is_of_it = is;
+  error = failed;
+}
+
+fails_by : (stand : Bool) (log log' es : List LogEntry) (call : LogEntry) (e : Error)
+    → log' ≡ log ++ es → PieceChain stand es call → call.error ≡ Some e
+    → FailsAt hook.RequestBodyFilter log' e ⊎ FailsAt hook.ModuleRequestBody log' e
+fails_by stand log log' es call e more (PieceChain.by_app none are is piece) failed =
+    inl (last_fails hook.RequestBodyFilter log log' es [] call e more are is failed)
+fails_by stand log log' es call e more
+    (PieceChain.by_both there first m last are is was piece becomes) failed =
+    inl (last_fails hook.RequestBodyFilter log log' es first last e more are is
+    (sym (ap (λ (x : LogEntry). x.error) becomes) ∙ failed))
+fails_by stand log log' es call e more (PieceChain.by_modules there are is bad piece) failed =
+    inr (last_fails hook.ModuleRequestBody log log' es [] call e more are is failed)
+
+-- where the calls of a piece lead in which memory was wanted
+lost_to : (es : List LogEntry) (stand : Bool) (given : LetsOn es → Type 0)
+    → (es ≡ []) ⊎ ((stand ≡ true) × (m : LetsOn es) × given m)
+    → (to : Station) × Accepts station.sent es to
+lost_to es stand given (inl none) =
+    subst (λ (l : List LogEntry). (to : Station) × Accepts station.sent l to) (sym none)
+    (station.sent, refl)
+lost_to es stand given (inr (there, m, was)) =
+    subst (λ (l : List LogEntry). (to : Station) × Accepts station.sent l to) (sym m.are)
+    (station.at_piece, from_piece station.sent es m (inl refl))
+
+-- by what an exchange was begun with, and what that left
+module _ {M C : Type 0} (app : Standing → LogEntry → Type 0) (modules : M → ModuleCall → Type 0)
+    (mark_of : C → ℕ) (session : Session M) (ctx : C) (client : HttpSession)
+  where
+    -- the filters of requests failed, with that error
+    pub record FailsFirst (session' : Session M) (ctx' : C) (client' : HttpSession) (e : Error)
+        : Type 0 where
+      pub leads : LeadsOn (allowed_by app modules) (λ h. IsTrue (may_break h))
+          (seen_by session.seen client) (mark_of ctx) (seen_by session'.seen client')
+          (mark_of ctx')
+      pub same : SameButHead client client'
+      pub fails : FailsAt hook.RequestBodyFilter session'.seen.log e
+          ⊎ FailsAt hook.ModuleRequestBody session'.seen.log e
+
+    module _ (session' : Session M) (ctx' : C) (client' : HttpSession) where
+      -- an exchange was begun
+      pub begins_by : CallsOnce session ctx client (allowed_by app modules) mark_of session' ctx'
+          client'
+          → LeadsOn (allowed_by app modules) Relays (seen_by session.seen client) (mark_of ctx)
+          (seen_by session'.seen client') (mark_of ctx')
+      begins_by (CallsOnce.none empty same) =
+          rw (same.session_same, same.ctx_same, same.client_same)
+          (none_leads (allowed_by app modules) (seen_by session.seen client) (mark_of ctx))
+      begins_by (CallsOnce.once one made f) =
+          let on = piece_stays (is_some session.modules) f.came.es f.came.call f.came.chain
+          f.came.says station.sent (inl refl) in
+          adds_lead (allowed_by app modules) (seen_by session.seen client) (mark_of ctx)
+          (seen_by session'.seen client') (mark_of ctx') Relays f.came.es f.came.adds on.0 on.1 on.2
+
+      -- the calls of a piece that was refused lead to where the attempt has failed
+      refused_leads : (e : Error)
+          → (r : Refused (allowed_by app modules) (is_some session.modules) e (kept_piece client)
+          (seen_by session.seen client) (mark_of ctx) (seen_by session'.seen client')
+          (mark_of ctx'))
+          → LeadsOn (allowed_by app modules) (λ h. IsTrue (may_break h))
+          (seen_by session.seen client) (mark_of ctx) (seen_by session'.seen client')
+          (mark_of ctx')
+      refused_leads e r =
+          adds_lead (allowed_by app modules) (seen_by session.seen client) (mark_of ctx)
+          (seen_by session'.seen client') (mark_of ctx') (λ h. IsTrue (may_break h)) r.came.es
+          r.came.adds station.broken
+          (piece_fails (is_some session.modules) r.came.es r.came.call e r.came.chain r.came.says
+          station.sent (inl refl)) refl
+
+      -- one was not, for an error
+      pub fails_first : (why : Fail) (e : Error) → why ≡ fail.Error e
+          → CannotPut session ctx client (allowed_by app modules) mark_of why session' ctx' client'
+          → FailsFirst session' ctx' client' e
+      fails_first why e is (CannotPut.before lost same) = absurd (cc)
+      fails_first why e is (CannotPut.in_filter lost one same) = absurd (cc)
+      fails_first why e is (CannotPut.by_filter raised told one r) = record {
+        leads = refused_leads raised r;
+        same = r.came.adds.client;
+        fails = fails_by (is_some session.modules) session.seen.log session'.seen.log r.came.es
+            r.came.call e r.came.adds.log r.came.chain (r.came.says ∙ cc);
+      }
+
+      -- nor where memory was wanted then, whyever it was not
+      pub lost_first : (why : Fail)
+          → CannotPut session ctx client (allowed_by app modules) mark_of why session' ctx' client'
+          → LeadsOut (allowed_by app modules) (seen_by session.seen client) (mark_of ctx)
+          (seen_by session'.seen client')
+      lost_first why (CannotPut.before lost same) =
+          none_leads_out (allowed_by app modules) (seen_by session.seen client) (mark_of ctx)
+          (seen_by session'.seen client')
+          (ap (λ (s : Session M). s.seen.log) same.session_same)
+      lost_first why (CannotPut.in_filter lost one l) =
+          let to = lost_to l.es (is_some session.modules) _ l.are in
+          record {
+            walks = record {
+              es = l.es;
+              to = l.adds.to;
+              log = l.adds.log;
+              walk = l.adds.walk;
+              plain = l.adds.plain;
+            };
+            here = to.0;
+            order = to.1;
+          }
+      lost_first why (CannotPut.by_filter raised told one r) =
+          leads_out (allowed_by app modules) (seen_by session.seen client) (mark_of ctx)
+          (seen_by session'.seen client') (mark_of ctx') (λ h. IsTrue (may_break h))
+          (refused_leads raised r)
+
+-- an exchange whose head has a framing is not begun for what was to be put first alone
+pub framed_unbegun : {L M C : Type 0} (session : Session M) (ctx : C) (client : HttpSession)
+    (app : Standing → LogEntry → Type 0) (mark_of : C → ℕ) (head : RequestHead)
+    (session' : Session M) (ctx' : C) (left : Unbegun L) → IsSome (request_framing head)
+    → IsUnbegun session ctx client app mark_of head session' ctx' left
+    → CannotPut session ctx client app mark_of left.why session' ctx' left.client
+framed_unbegun session ctx client app mark_of head session' ctx' left framed
+    (inl (is, none, same)) =
+    absurd (unfounded (request_framing head) framed none)
   where
     unfounded : (found : Option Framing) → IsSome found → found ≡ None → ⊥
     unfounded None some none = true≢false (sym some)
     unfounded (Some framing) some none = cc
+framed_unbegun session ctx client app mark_of head session' ctx' left framed (inr cannot) = cannot
 
-    by : (why : Fail) → left.why ≡ why → IsMemoryOr unframed why → left.why ≡ fail.OutOfMemory
-    by fail.OutOfMemory same cause = same
-    by (fail.Error e) same cause =
-        absurd (unfounded (request_framing head) framed
-        (refused.0 (left, is, same ∙ ap (λ (x : Error). fail.Error x) cause)))
+-- ---- the calls of an exchange that begins
+
+module _ {L C M K : Type 0} (allows : Standing → LogEntry → Type 0) (mark_of : C → ℕ)
+    (c d : Calls M K C) (session : HttpSession) (context : C) (stands : d.at ≡ c.at)
+  where
+    -- the attempt is held
+    pub held_calls : (a : Attempt L C) (b : Box (Attempt L C)) → b.value ≡ a
+        → lost_by a.exchange.down.stopped ≡ false
+        → LeadsOn allows Relays (seen_with c session) (mark_of context)
+        (seen_with d a.exchange.down.inner.session) (mark_of a.context)
+        → BeginsCalls {L = L} allows mark_of c session context d (Relay b)
+    held_calls a b same alive l =
+        subst (λ (x : Attempt L C). BegunBy allows mark_of c session context d
+        x.exchange.down.inner.session x.context × (lost_by x.exchange.down.stopped ≡ false))
+        (sym same) (
+          record {
+            enters = record { walks = l.walks; stands = stands };
+            here = l.here;
+            order = l.order;
+            relays = l.stands;
+          },
+          alive,
+        )
+
+    -- a filter failed
+    pub broken_calls : (context' : C) (left : HttpSession) (stays : Box HttpSession)
+        (link : L) (lease : Lease) (keep : Bool) (e : Error) → stays.value ≡ left
+        → LeadsOn allows (λ h. IsTrue (may_break h)) (seen_with c session) (mark_of context)
+        (seen_with d left) (mark_of context')
+        → BeginsCalls {L = L} allows mark_of c session context d
+        (phase.Broken context' stays link lease keep e)
+    broken_calls context' left stays link lease keep e same l =
+        subst (λ (h : HttpSession). UnbegunBy allows mark_of c session context d h context')
+        (sym same)
+        (record {
+          enters = record { walks = l.walks; stands = stands };
+          here = l.here;
+          order = l.order;
+          breaks = l.stands;
+        })
+
+    -- memory was wanted
+    pub lost_calls : (left : HttpSession) (link : L) (lease : Lease) (keep : Bool)
+        → LeadsOut allows (seen_with c session) (mark_of context) (seen_with d left)
+        → BeginsCalls {L = L} allows mark_of c session context d
+        (Close link lease keep outcome.OutOfMemory)
+    lost_calls left link lease keep l = (
+      refl,
+      record {
+        walks = record {
+          es = l.walks.es;
+          to = l.walks.to;
+          log = l.walks.log;
+          walk = l.walks.walk;
+          plain = l.walks.plain;
+        };
+        here = l.here;
+        order = l.order;
+      },
+    )
+
+-- ---- the exchange
+
+-- a session that begins behind these bytes does so wherever the calls of its exchange begin
+begins_at : (s : Start) (head sent : RequestHead) (reused : Bool) (began : List LogEntry)
+    (came : List ℕ) (client : LinkState) (ahead : List ℕ) (session : HttpSession)
+    → BeginsBehind (origin_of s head sent reused) came client ahead session
+    → BeginsBehind (origin_at s head sent reused began) came client ahead session
+begins_at s head sent reused began came client ahead session b = record {
+  gave = b.gave;
+  written = b.written;
+  faults = b.faults;
+  head = b.head;
+  framing = b.framing;
+  len = b.len;
+  has = b.has;
+  has_head = b.has_head;
+  own = b.own;
+  answers = b.answers;
+  body = b.body;
+  request = b.request;
+  kept = b.kept;
+  headed = b.headed;
+  whole = b.whole;
+  response = b.response;
+  output = b.output;
+  tells = b.tells;
+}
 
 module _ {L : Type 0} (state : L → LinkState) (start_at : L → LinkStart) where
   -- an exchange that is under way is over a link that tells what passed
   leased_under_way : (s : Start) (o : Origin) (p : Passed) (client : LinkState) (ahead : List ℕ)
-      (x : H1Exchange L) (lease : Lease) → o.reused ≡ lease.reused → IsNamed s.called lease.peer
-      → IsNamed s.called lease.recorded
-      → AreTries s (tries_in lease) → IsUnderWay state start_at o p client ahead x
+      (log : List LogEntry) (x : HookedExchange L) (lease : Lease) → o.reused ≡ lease.reused
+      → IsNamed s.called lease.peer → IsNamed s.called lease.recorded
+      → AreTries s (tries_in lease) → IsUnderWay state start_at o p client ahead log x
       → IsLeased s p (state (link_of x)) (start_at (link_of x)) lease
-  leased_under_way s o p client ahead x lease reused peer recorded tries under = record {
+  leased_under_way s o p client ahead log x lease reused peer recorded tries under = record {
     tells = record {
       got = subst (λ (xs : List ℕ). Since [] (start_at (link_of x)).given
-          (state (link_of x)).given xs) under.got side.holds.peer.got;
+          (state (link_of x)).given xs) under.got side.peer.got;
       sent = subst (λ (xs : List ℕ). Since [] (start_at (link_of x)).taken
-          (state (link_of x)).taken xs) under.sent side.holds.peer.sent;
-      faults = side.holds.peer.faults;
+          (state (link_of x)).taken xs) under.sent side.peer.sent;
+      faults = side.peer.faults;
     };
     peer = peer;
     recorded = recorded;
-    reused = side.holds.reused ∙ reused;
+    reused = side.reused ∙ reused;
     tries = tries;
   }
     where
-      side : UpHolds state start_at x.exchange.up o under.up
+      side : PeerHolds state start_at o x.exchange.up under.up
       side = under.holds.so_far.up
 
+-- by the calls so far, and those with which the exchange began
+module _ {L C : Type 0} (state : L → LinkState) (start_at : L → LinkStart)
+    (log log' es : List LogEntry) (more : log' ≡ log ++ es) (plain : All IsFilterCall es)
+    (s : Start) (p : Passed) (w : World) (context : C) (session : Box HttpSession) (link : L)
+  where
+    -- the exchange is under way, and nothing was sent or written yet
+    pub begun : (given : RequestHead) (a : Attempt L C)
+        → (run : RunSoFar {C = C} state start_at (opened_to s log) p w []
+        (Prepare context session link a.lease))
+        → Sends log run.holds.1.connecting.head given → HasFiltered log
+        → (allows : Standing → LogEntry → Type 0) (old new : Seen) (mark behind : ℕ)
+        → Walk allows (standing None false (moment (seen_by old session.value) mark)) es
+        (standing None false (moment (seen_by new a.exchange.down.inner.session) behind))
+        → SameButHead session.value a.exchange.down.inner.session
+        → a.exchange.down.at_first ≡ false
+        → ((o : Origin) (came : List ℕ) (reused : Bool) → given ≡ o.sent → o.asked ≡ false
+        → o.called ≡ log → BeginsBehind o came w.client w.ahead session.value
+        → IsHandedOut (state link) (start_at link) reused → o.reused ≡ reused
+        → IsUnderWay state start_at o
+        (record { came = came; written = []; got = []; sent = [] }) w.client w.ahead log'
+        a.exchange)
+        → IsRelaying state start_at (opened_to s log') p w a
+    begun given a run sends at_sent allows old new mark behind walk same first begins =
+        record {
+          leased = leased_under_way state start_at (opened_to s log') origin p w.client w.ahead log'
+              a.exchange a.lease refl
+              (named_past log es log' more plain a.lease.peer run.holds.0.peer)
+              (named_past log es log' more plain a.lease.recorded run.holds.0.recorded)
+              (tries_past log es log' more plain s (tries_in a.lease) run.holds.0.tries) under;
+          head = k.head;
+          sent = given;
+          relayable = k.accepted.relayable;
+          sends = sends_past log es log' more plain sends;
+          began = log;
+          at_sent = at_sent;
+          under_way = under;
+          at_first = first;
+          is_left = head_past log es log' more plain allows (seen_by old session.value)
+              (seen_by new a.exchange.down.inner.session) mark behind walk k.head k.is_left
+              (same.head (k.begins k.head false).has_head);
+          quiet = quiet_past log es log' more plain k.quiet;
+        }
+      where
+        k : IsConnecting (opened_to s log) p w session.value (tries_in a.lease)
+        k = run.holds.1.connecting
+
+        origin : Origin
+        origin = origin_at (opened_to s log') k.head given a.lease.reused log
+
+        under : IsUnderWay state start_at origin p w.client w.ahead log' a.exchange
+        under = subst (λ (q : Passed).
+            IsUnderWay state start_at origin q w.client w.ahead log' a.exchange)
+            (came_alone p k.written k.unsent)
+            (begins origin p.came a.lease.reused refl refl refl
+            (begins_at (opened_to s log) k.head given a.lease.reused log p.came w.client w.ahead
+            session.value (k.begins given a.lease.reused)) run.holds.1.fresh refl)
+
+    -- what the client's link tells stands
+    pub begun_tells : (lease : Lease)
+        → RunSoFar {C = C} state start_at (opened_to s log) p w []
+        (Prepare context session link lease) → TellsClient (opened_to s log') p w
+    begun_tells lease run = called_tells s log log' p w run.tells
+
+    -- the exchange was not begun, when out of memory
+    pub not_begun : (back : L) (lease : Lease) → back ≡ link
+        → RunSoFar {C = C} state start_at (opened_to s log) p w []
+        (Prepare context session link lease)
+        → Advances {C = C} state start_at (opened_to s log') w
+        (Close back lease false outcome.OutOfMemory)
+    not_begun back lease same run =
+        subst (λ (l : L). Advances {C = C} state start_at (opened_to s log') w
+        (Close l lease false outcome.OutOfMemory)) (sym same)
+        (link_lost state start_at log log' s p w context session link lease
+        (tells_past log es log' more plain) run)
+
+module _ {L C M K : Type 0} (state : L → LinkState) (start_at : L → LinkStart)
+    (allows : Standing → LogEntry → Type 0) (c d : Calls M K C) (mark behind : ℕ) (s : Start)
+    (p : Passed) (w : World) (context : C) (session : Box HttpSession) (left : HttpSession)
+    (link : L) (lease : Lease)
+  where
+    -- behind calls of filters that changed no more than the head the request stands as it stood
+    connecting_past : (tries : List AttemptRecord)
+        → WalksTo allows (seen_with c session.value) mark (seen_with d left) behind
+        → SameButHead session.value left
+        → IsConnecting (opened_to s (log_of c)) p w session.value tries
+        → IsConnecting (opened_to s (log_of d)) p w left tries
+    connecting_past tries walks same k =
+        let reads : ReadsNothing (seen_with c session.value) (seen_with d left) =
+        record { head = same.head; but_head = same.but_head } in
+        record {
+          head = k.head;
+          accepted = called_accepted s (log_of c) (log_of d) p k.head k.accepted;
+          is_left = head_past (log_of c) walks.es (log_of d) walks.log walks.plain allows
+              (seen_with c session.value) (seen_with d left) mark behind walks.walk k.head k.is_left
+              (same.head (k.begins k.head false).has_head);
+          quiet = quiet_past (log_of c) walks.es (log_of d) walks.log walks.plain k.quiet;
+          begins = λ sent reused.
+              begins_on (origin_of s k.head sent reused) p.came w.client w.ahead
+              (seen_with c session.value) (seen_with d left) reads same.writing
+              (k.begins sent reused);
+          unread = λ none.
+              reads_done (seen_with c session.value) (seen_with d left) reads ∙ k.unread none;
+          written = k.written;
+          unsent = k.unsent;
+          are_tries = tries_past (log_of c) walks.es (log_of d) walks.log walks.plain s tries
+              k.are_tries;
+        }
+
+    -- a filter failed as the exchange was to begin
+    pub unpassed : (back : L) → back ≡ link → (e : Error)
+        → WalksTo allows (seen_with c session.value) mark (seen_with d left) behind
+        → SameButHead session.value left
+        → FailsAt hook.RequestBodyFilter (log_of d) e ⊎ FailsAt hook.ModuleRequestBody (log_of d) e
+        → RunSoFar {C = C} state start_at (opened_to s (log_of c)) p w []
+        (Prepare context session link lease)
+        → LeavesAhead (opened_to s (log_of d)) p w (state back) (start_at back) left lease true e
+    unpassed back same e walks but_head fails run =
+        subst (λ (l : L). LeavesAhead (opened_to s (log_of d)) p w (state l) (start_at l) left lease
+        true e) (sym same)
+        (record {
+          connecting = connecting_past (tries_in lease) walks but_head run.holds.1.connecting;
+          leased = leased_on s (log_of c) (log_of d) p (state link) (start_at link) lease
+              (tells_past (log_of c) walks.es (log_of d) walks.log walks.plain) run.holds.0;
+          fresh = run.holds.1.fresh;
+          why = RefusesToSend.unpassed fails refl;
+        })
+
 module _ {L C : Type 0} (state : L → LinkState) (start_at : L → LinkStart) where
-  -- the exchange is under way, and nothing was sent or written yet
-  pub begun : (s : Start) (p : Passed) (w : World) (context : C) (session : Box HttpSession)
-      (given : RequestHead) (link : L) (a : Attempt L C)
-      → (run : RunSoFar {C = C} state start_at s p w [] (Prepare context session link a.lease))
-      → Sends s.called run.holds.1.connecting.head given
-      → ((o : Origin) (came : List ℕ) (client : LinkState) (ahead : List ℕ) (reused : Bool)
-      → given ≡ o.sent → o.asked ≡ false → BeginsBehind o came client ahead session.value
-      → IsHandedOut (state link) (start_at link) reused → o.reused ≡ reused
-      → IsUnderWay state start_at o
-      (record { came = came; written = []; got = []; sent = [] }) client ahead a.exchange)
-      → a.exchange.down.session ≡ session.value
-      → IsRelaying state start_at s p w a
-  begun s p w context session given link a run sends begins same =
-      record {
-        leased = leased_under_way state start_at s origin p w.client w.ahead a.exchange a.lease refl
-            run.holds.0.peer run.holds.0.recorded run.holds.0.tries under;
-        head = run.holds.1.connecting.head;
-        sent = given;
-        relayable = run.holds.1.connecting.accepted.relayable;
-        sends = sends;
-        under_way = under;
-        is_left = ap (λ (h : HttpSession). head_of h.reading) same
-            ∙ run.holds.1.connecting.is_left;
-        quiet = run.holds.1.connecting.quiet;
-      }
-    where
-      origin : Origin
-      origin = origin_of s run.holds.1.connecting.head given a.lease.reused
-
-      under : IsUnderWay state start_at origin p w.client w.ahead a.exchange
-      under = subst (λ (q : Passed). IsUnderWay state start_at origin q w.client w.ahead a.exchange)
-          (came_alone p run.holds.1.connecting.written run.holds.1.connecting.unsent)
-          (begins origin p.came w.client w.ahead a.lease.reused refl refl
-          (run.holds.1.connecting.begins given a.lease.reused) run.holds.1.fresh refl)
-
   -- the attempt is held
   pub held : (s : Start) (p : Passed) (w : World) (a : Attempt L C) (b : Box (Attempt L C))
       → b.value ≡ a → TellsClient s p w → IsInOrder s p → w.client.faults ≡ s.faults
@@ -776,7 +1208,7 @@ module _ {L C : Type 0} (state : L → LinkState) (start_at : L → LinkStart) w
       tells = tells;
       order = order;
       untouched = λ open_head.
-          absurd (exchange_open _ s p relaying.head relaying.sent a.lease.reused _
+          absurd (exchange_open _ _ s p relaying.head relaying.sent a.lease.reused relaying.began _
           relaying.under_way.order open_head);
       going = tt;
       calm = calm;
@@ -795,37 +1227,164 @@ module _ {L C : Type 0} (state : L → LinkState) (start_at : L → LinkStart) w
       tells = tells;
       order = order;
       untouched = λ open_head.
-          absurd (exchange_open _ s p relaying.head relaying.sent a.lease.reused _
+          absurd (exchange_open _ _ s p relaying.head relaying.sent a.lease.reused relaying.began _
           relaying.under_way.order open_head);
       going = no_limit;
       calm = tt;
       holds = (
         relaying.leased,
         (
-          inl (part_relayed s p relaying.head relaying.sent a.lease.reused _ _ relaying.relayable
-              relaying.sends relaying.leased.reused relaying.under_way.order),
+          inl (part_relayed s p relaying.head relaying.sent a.lease.reused _ _ None _ relaying.began
+              relaying.relayable relaying.sends relaying.leased.reused
+              (relaying_stands state start_at _ p w.client w.ahead s.called a.exchange
+              relaying.at_sent relaying.under_way) relaying.under_way.order),
           refl,
         ),
       );
     };
   }
 
-  -- the exchange was not begun, when out of memory
-  pub not_begun : (s : Start) (p : Passed) (w : World) (context : C) (session : Box HttpSession)
-      (link back : L) (lease : Lease) → back ≡ link
-      → RunSoFar {C = C} state start_at s p w [] (Prepare context session link lease)
-      → Advances {C = C} state start_at s w (Close back lease false outcome.OutOfMemory)
-  not_begun s p w context session link back lease same run = record {
-    passed = p;
-    run = record {
-      tells = run.tells;
-      order = run.order;
-      untouched = run.untouched;
-      going = no_limit;
-      calm = tt;
-      holds = (
-        subst (λ (l : L). IsLeased s p (state l) (start_at l) lease) (sym same) run.holds.0,
-        (inr (run.holds.1.connecting.written, run.holds.1.connecting.unsent), refl),
-      );
-    };
-  }
+-- ---- what the beginning of an exchange comes to
+
+-- by the calls so far, as the head goes out, and behind what it called
+module _ {L C M K : Type 0} (state : L → LinkState) (start_at : L → LinkStart)
+    (app : Standing → LogEntry → Type 0) (modules : M → ModuleCall → Type 0) (mark_of : C → ℕ)
+    (c d : Calls M K C) (stands : d.at ≡ c.at) (context : C) (session : Box HttpSession)
+  where
+    -- an exchange was begun
+    module _ (a : Attempt L C) (calls : CallsOnce c.session context session.value
+        (allowed_by app modules) mark_of d.session a.context a.exchange.down.inner.session)
+      where
+        -- where its calls lead
+        leads : LeadsOn (allowed_by app modules) Relays (seen_with c session.value)
+            (mark_of context) (seen_with d a.exchange.down.inner.session) (mark_of a.context)
+        leads = begins_by app modules mark_of c.session context session.value d.session a.context
+            a.exchange.down.inner.session calls
+
+        -- they are those of filters
+        pub begun_enters :
+            (es : List LogEntry) × (log_of d ≡ log_of c ++ es) × All IsFilterCall es
+        begun_enters = (leads.walks.es, leads.walks.log, leads.walks.plain)
+
+        -- the calls so far, whether it is held or not
+        pub begun_calls : (next : Phase L C)
+            → ((b : Box (Attempt L C)) × (b.value ≡ a) × (next ≡ Relay b))
+            ⊎ (next ≡ Close (link_of a.exchange) a.lease false outcome.OutOfMemory)
+            → lost_by a.exchange.down.stopped ≡ false
+            → BeginsCalls (allowed_by app modules) mark_of c session.value context d next
+        begun_calls next (inl (b, same, is)) alive =
+            subst (λ (n : Phase L C).
+            BeginsCalls (allowed_by app modules) mark_of c session.value context d n) (sym is)
+            (held_calls (allowed_by app modules) mark_of c d session.value context stands a b same
+            alive leads)
+        begun_calls next (inr is) alive =
+            subst (λ (n : Phase L C).
+            BeginsCalls (allowed_by app modules) mark_of c session.value context d n) (sym is)
+            (lost_calls (allowed_by app modules) mark_of c d session.value context stands
+            a.exchange.down.inner.session (link_of a.exchange) a.lease false
+            (leads_out (allowed_by app modules) (seen_with c session.value) (mark_of context)
+            (seen_with d a.exchange.down.inner.session) (mark_of a.context) Relays leads))
+
+        -- and it is under way
+        pub begun_relays : (s : Start) (p : Passed) (w : World) (link : L) (given : RequestHead)
+            → (run : RunSoFar {C = C} state start_at (opened_to s (log_of c)) p w []
+            (Prepare context session link a.lease))
+            → Sends (log_of c) run.holds.1.connecting.head given
+            → HasFiltered (log_of c) → SameButHead session.value a.exchange.down.inner.session
+            → a.exchange.down.at_first ≡ false
+            → ((o : Origin) (came : List ℕ) (reused : Bool) → given ≡ o.sent → o.asked ≡ false
+            → o.called ≡ log_of c → BeginsBehind o came w.client w.ahead session.value
+            → IsHandedOut (state link) (start_at link) reused → o.reused ≡ reused
+            → IsUnderWay state start_at o
+            (record { came = came; written = []; got = []; sent = [] }) w.client w.ahead (log_of d)
+            a.exchange)
+            → IsRelaying state start_at (opened_to s (log_of d)) p w a
+        begun_relays s p w link given run sends at_sent same first begins =
+            begun state start_at (log_of c) (log_of d) leads.walks.es leads.walks.log
+            leads.walks.plain s p w context session link given a run sends at_sent
+            (allowed_by app modules) c.session.seen d.session.seen (mark_of context)
+            (mark_of a.context) leads.walks.walk same first begins
+
+    -- none was, for what was to be put first
+    module _ (left : Unbegun L) (context' : C) (cannot : CannotPut c.session context session.value
+        (allowed_by app modules) mark_of left.why d.session context' left.client)
+      where
+        -- where its calls lead
+        out : LeadsOut (allowed_by app modules) (seen_with c session.value) (mark_of context)
+            (seen_with d left.client)
+        out = lost_first app modules mark_of c.session context session.value d.session context'
+            left.client left.why cannot
+
+        -- what it comes to: the attempt is broken, or its link is to go back
+        abbrev pub ComesToBreak : Lease → Phase L C → Type 0
+        ComesToBreak lease next =
+            ((stays : Box HttpSession) × (e : Error) × (stays.value ≡ left.client)
+            × (left.why ≡ fail.Error e)
+            × (next ≡ phase.Broken context' stays left.link lease true e))
+            ⊎ (next ≡ Close left.link lease false outcome.OutOfMemory)
+
+        -- they are those of filters
+        pub unbegun_enters :
+            (es : List LogEntry) × (log_of d ≡ log_of c ++ es) × All IsFilterCall es
+        unbegun_enters = (out.walks.es, out.walks.log, out.walks.plain)
+
+        -- the calls so far then
+        pub unbegun_calls : (lease : Lease) (next : Phase L C) → ComesToBreak lease next
+            → BeginsCalls (allowed_by app modules) mark_of c session.value context d next
+        unbegun_calls lease next (inl (stays, e, same, why, is)) =
+            let f = fails_first app modules mark_of c.session context session.value d.session
+            context' left.client left.why e why cannot in
+            subst (λ (n : Phase L C).
+            BeginsCalls (allowed_by app modules) mark_of c session.value context d n) (sym is)
+            (broken_calls (allowed_by app modules) mark_of c d session.value context stands context'
+            left.client stays left.link lease true e same f.leads)
+        unbegun_calls lease next (inr is) =
+            subst (λ (n : Phase L C).
+            BeginsCalls (allowed_by app modules) mark_of c session.value context d n) (sym is)
+            (lost_calls (allowed_by app modules) mark_of c d session.value context stands
+            left.client left.link lease false out)
+
+        -- and the run
+        pub unbegun_run : (s : Start) (p : Passed) (w : World) (link : L) (lease : Lease)
+            (next : Phase L C) → ComesToBreak lease next → left.link ≡ link
+            → RunSoFar {C = C} state start_at (opened_to s (log_of c)) p w []
+            (Prepare context session link lease)
+            → Advances {C = C} state start_at (opened_to s (log_of d)) w next
+        unbegun_run s p w link lease next (inl (stays, e, same, why, is)) back run =
+            let f = fails_first app modules mark_of c.session context session.value d.session
+            context' left.client left.why e why cannot in
+            subst (λ (n : Phase L C). Advances {C = C} state start_at (opened_to s (log_of d)) w n)
+            (sym is)
+            (ahead_broken state start_at (opened_to s (log_of d)) p w context' stays left.link lease
+            true e (called_tells s (log_of c) (log_of d) p w run.tells) run.untouched
+            (subst (λ (h : HttpSession). LeavesAhead (opened_to s (log_of d)) p w (state left.link)
+            (start_at left.link) h lease true e) (sym same)
+            (unpassed state start_at (allowed_by app modules) c d (mark_of context)
+            (mark_of context') s p w context session left.client link lease left.link back e
+            f.leads.walks f.same f.fails run)))
+        unbegun_run s p w link lease next (inr is) back run =
+            subst (λ (n : Phase L C). Advances {C = C} state start_at (opened_to s (log_of d)) w n)
+            (sym is)
+            (not_begun state start_at (log_of c) (log_of d) out.walks.es out.walks.log
+            out.walks.plain s p w context session link left.link lease back run)
+
+-- ---- what is counted of the calls
+
+-- behind a call more, and those of filters
+pub begun_grows : {M K X : Type 0} (c d f : Calls M K X) (e : LogEntry) (es : List LogEntry)
+    (work : Work) → log_of d ≡ log_of c ++ e ∷ [] → log_of f ≡ log_of d ++ es → work.called ≤ 1
+    → GrowsCalls c f work
+begun_grows c d f e es work one more few =
+    let whole : log_of f ≡ log_of c ++ e ∷ es =
+    more ∙ ap (λ (l : List LogEntry). l ++ es) one ∙ append_assoc (log_of c) (e ∷ []) es in
+    let longer : length (log_of f) ≡ length (log_of c) + length (e ∷ es) =
+    ap (λ (l : List LogEntry). length l) whole ∙ length-append (log_of c) (e ∷ es) in
+    record {
+      counted = omega (arith, longer, few);
+      grows = record { rest = e ∷ es; joined = sym whole };
+    }
+
+-- a turn that added one at most
+pub once_grows : {M K X : Type 0} (c d : Calls M K X) (work : Work) → CountsCalls c d work
+    → GrowsCalls c d work
+once_grows c d work counts = record { counted = counts.counted; grows = counts.grows }

@@ -1,7 +1,7 @@
 -- What the purger was asked, and what its answer makes of a request.
 --
 --   purges_append .. unpurged_on   the calls of the purger that a log tells
---   asks_once, asks_purger         what a turn asked it
+--   asks_nothing .. asks_still     what a turn asked it: nothing
 --   purge_owing ..                 its answer is owed, and the calls so far
 --   purge_leaves                   what waits for the client
 --   settled_purger .. purged_end   over the steps of a request
@@ -78,6 +78,7 @@ use Rattle.relay_request.specs.declared.work.Work.{Work}
 use Rattle.relay_request.proofs.CallLemmas.{logged_same, none_called, one_called, order_more, walks_more}
 use Rattle.relay_turns.proofs.LastCalls.{unended_unlogged, unlogged_alive}
 use Rattle.relay_request.proofs.NamedLemmas.{refusals_still}
+use Rattle.relay_turns.proofs.FilterSteps.{purge_past}
 use Rattle.relay_turns.proofs.OpenSteps.{purge_answers}
 use Rattle.relay_request.proofs.TreatLemmas.{unended_more, untreated_more}
 
@@ -105,17 +106,6 @@ purges_append (x ∷ y ∷ log) last e =
     (if same_hook hook.PurgeResponseFilter y.hook then call_told x y else [])
     (purges_in (y ∷ (log ++ last ∷ [])))
     (if same_hook hook.PurgeResponseFilter e.hook then call_told last e else []))
-
--- so one that filtered none tells of none
-unpurged_append : (log : List LogEntry) (e : LogEntry)
-    → same_hook hook.PurgeResponseFilter e.hook ≡ false
-    → purges_in (log ++ e ∷ []) ≡ purges_in log
-unpurged_append [] e none = refl
-unpurged_append (x ∷ []) e none = rw none refl
-unpurged_append (x ∷ y ∷ log) e none =
-    ap (λ (l : List PurgeCall).
-    (if same_hook hook.PurgeResponseFilter y.hook then call_told x y else []) ++ l)
-    (unpurged_append (y ∷ log) e none)
 
 -- ---- where none may be filtered
 
@@ -172,7 +162,7 @@ unpurged_by : (old : List LogEntry) (at to : Station) (rest : List LogEntry)
 unpurged_by old at to [] order elsewhere leads few =
     ap (λ (l : List LogEntry). purges_in l) (append-nil old)
 unpurged_by old at to (e ∷ []) order elsewhere leads few =
-    unpurged_append old e (unfiltered at to e elsewhere
+    purge_past old e (unfiltered at to e elsewhere
     (sym (next_behind-append (Some station.accepted) old (e ∷ [])
     ∙ ap (λ (a : Option Station). next_behind a (e ∷ [])) order) ∙ leads))
 unpurged_by old at to (e ∷ f ∷ es) order elsewhere leads few = absurd (omega (arith, few))
@@ -198,6 +188,11 @@ module _ {L C M K : Type 0} (before after : PurgerState) (old new : Calls M K C)
           ap (λ (l : List LogEntry). length l) front.joined,
           length-append (log_of old) front.rest,
         )))
+
+    -- nor did one whose calls tell of no purge, however many these are
+    pub asks_unpurged : after ≡ before → purges_in (log_of new) ≡ purges_in (log_of old)
+        → AsksPurger before after (log_of old) (log_of new) phase
+    asks_unpurged same none = AsksPurger.nothing same none
 
     -- one without a call asked nothing
     pub asks_still : after ≡ before → log_of new ≡ log_of old

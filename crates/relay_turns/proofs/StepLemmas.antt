@@ -9,13 +9,14 @@ use Rattle.relay_links.specs.declared.Returned.{Returned}
 use Rattle.relay_session.specs.declared.session.HttpSession.{HttpSession}
 use Rattle.relay_tasks.specs.declared.Error.{Error}
 use Rattle.relay_tasks.specs.declared.Fault.{Fault}
+use Rattle.relay_tasks.specs.declared.log.LogEntry.{LogEntry}
 use Rattle.relay_tasks.specs.declared.Peer.{Peer}
 use Rattle.relay_h1.specs.Verdict.{IsOpen}
-use Rattle.relay_attempt.specs.Exchange.{IsUnderWay}
 use Rattle.relay_attempt.specs.Passed.{Passed}
-use Rattle.relay_attempt.specs.Head.{link_of}
+use Rattle.relay_hooked.specs.Exchange.{IsUnderWay}
+use Rattle.relay_hooked.specs.Head.{filtering_of, link_of}
 use Rattle.relay_request.specs.Bound.{IsWithin, LinkGave, OwnGave, PhaseCounts, TurnedCounts, most_sides, sides_before}
-use Rattle.relay_request.specs.Passed.{World, Start, origin_of, IsUnsent}
+use Rattle.relay_request.specs.Passed.{World, Start, origin_at, IsUnsent}
 use Rattle.relay_request.specs.Endings.{error_of, IsErrorOf, EndsLinked, EndsUnlinked, AttemptsUnfinished, AttemptsUnlinked, IsHalfRefused, EndsReturned, EndsWith}
 use Rattle.relay_request.specs.Owed.{IsGivenBack, IsAnswering, IsHalfGiven}
 use Rattle.relay_request.specs.Taken.{Takes, offers_for, offers_before, offers_of_turn}
@@ -34,7 +35,7 @@ use Rattle.relay_turns.proofs.FailSteps.{broken_part, half_informed}
 use Rattle.relay_turns.proofs.TakenLemmas.{offers_are}
 use Rattle.relay_turns.proofs.TryLemmas.{tries_before}
 use Rattle.relay_turns.proofs.BoundLemmas.{open_counts, within_link}
-use Rattle.relay_turns.proofs.ConnectSteps.{part_relayed}
+use Rattle.relay_turns.proofs.ConnectSteps.{part_relayed, relaying_stands}
 use Rattle.relay_turns.proofs.LegLemmas.{anew, begins_of, is_leg_of, leg_of, length_behind, run_again, unfaulted_same}
 use Rattle.relay_turns.proofs.AnswerSteps.{answering_of, ends_part, waits_front, waits_left}
 use Rattle.relay_turns.proofs.TurnLemmas.{unlinked_open, unlinked_items, answer_offers}
@@ -404,10 +405,10 @@ module _ {L C : Type 0} (state : L → LinkState) (start_at : L → LinkStart) w
       true≢false (sym (ap (λ (n : Phase L C). is_closing n) is) ∙ shut)
 
   -- a turn that moved and owes the client an answer moved whatever it owes it by
-  owes_moved : (w x : World) (phase next settled : Phase L C) → OwesAnswer next
-      → OwesAnswer settled → HasMoved state start_at w x phase next
-      → HasMoved state start_at w x phase settled
-  owes_moved w x ReadHead next settled owes owes' moved = inr (owing settled owes')
+  owes_moved : (log : List LogEntry) (w x : World) (phase next settled : Phase L C)
+      → OwesAnswer next → OwesAnswer settled → HasMoved state start_at log w x phase next
+      → HasMoved state start_at log w x phase settled
+  owes_moved log w x ReadHead next settled owes owes' moved = inr (owing settled owes')
     where
       owing : (k : Phase L C) → OwesAnswer k → is_reading_head k ≡ false
       owing ReadHead o = absurd o
@@ -421,14 +422,14 @@ module _ {L C : Type 0} (state : L → LinkState) (start_at : L → LinkStart) w
       owing (Close link lease keep outcome) o = refl
       owing (Answer session owed attempts) o = refl
       owing (Ended outcome attempts) o = refl
-  owes_moved w x (Connect context session tries) next settled owes owes' moved =
+  owes_moved log w x (Connect context session tries) next settled owes owes' moved =
       inr (inr (inr owes'))
-  owes_moved w x (Unlinked context session attempts error) next settled owes owes' moved = owes'
-  owes_moved w x (Prepare context session link lease) next settled owes owes' moved = inr owes'
-  owes_moved w x (Relay a) next settled owes owes' moved = inr owes'
-  owes_moved w x (Broken context session link lease keep e) next settled owes owes' moved =
+  owes_moved log w x (Unlinked context session attempts error) next settled owes owes' moved = owes'
+  owes_moved log w x (Prepare context session link lease) next settled owes owes' moved = inr owes'
+  owes_moved log w x (Relay a) next settled owes owes' moved = inr owes'
+  owes_moved log w x (Broken context session link lease keep e) next settled owes owes' moved =
       inl owes'
-  owes_moved w x (Again context session link lease keep e) next settled owes owes' moved =
+  owes_moved log w x (Again context session link lease keep e) next settled owes owes' moved =
       absurd (none next owes moved)
     where
       none : (k : Phase L C) → OwesAnswer k → IsAgain state start_at (tries_in lease) k → ⊥
@@ -443,10 +444,10 @@ module _ {L C : Type 0} (state : L → LinkState) (start_at : L → LinkStart) w
       none (Close link lease keep outcome) o i = i
       none (Answer session owed attempts) o i = i
       none (Ended outcome attempts) o i = i
-  owes_moved w x (Fail link lease keep session e) next settled owes owes' moved = owes'
-  owes_moved w x (Close link lease keep outcome) next settled owes owes' moved = absurd moved
-  owes_moved w x (Answer session owed attempts) next settled owes owes' moved = moved
-  owes_moved w x (Ended outcome attempts) next settled owes owes' moved = absurd moved
+  owes_moved log w x (Fail link lease keep session e) next settled owes owes' moved = owes'
+  owes_moved log w x (Close link lease keep outcome) next settled owes owes' moved = absurd moved
+  owes_moved log w x (Answer session owed attempts) next settled owes owes' moved = moved
+  owes_moved log w x (Ended outcome attempts) next settled owes owes' moved = absurd moved
 
   -- what is again behind those attempts is still, once its link was handed back
   again_settled : (tries : List AttemptRecord) (next settled : Phase L C) → GoesAgain next settled
@@ -460,64 +461,65 @@ module _ {L C : Type 0} (state : L → LinkState) (start_at : L → LinkStart) w
       )
 
   -- a turn that moved so that another attempt follows moved whatever its link is
-  again_moved : (w x : World) (phase next settled : Phase L C) → GoesAgain next settled
-      → HasMoved state start_at w x phase next → HasMoved state start_at w x phase settled
-  again_moved w x ReadHead next settled g moved =
+  again_moved : (log : List LogEntry) (w x : World) (phase next settled : Phase L C)
+      → GoesAgain next settled → HasMoved state start_at log w x phase next
+      → HasMoved state start_at log w x phase settled
+  again_moved log w x ReadHead next settled g moved =
       inr (ap (λ (k : Phase L C). is_reading_head k) g.settles)
-  again_moved w x (Connect context session tries) next settled g (inl linked) =
+  again_moved log w x (Connect context session tries) next settled g (inl linked) =
       absurd (true≢false (sym linked ∙ ap (λ (k : Phase L C). is_linked k) g.is))
-  again_moved w x (Connect context session tries) next settled g (inr (inl on)) =
+  again_moved log w x (Connect context session tries) next settled g (inr (inl on)) =
       absurd (again_else (Connect on.context on.session (tries ++ on.attempt ∷ [])) refl g.context
       g.session g.link g.lease g.keep g.e (sym on.again ∙ g.is))
-  again_moved w x (Connect context session tries) next settled g (inr (inr (inl on))) =
+  again_moved log w x (Connect context session tries) next settled g (inr (inr (inl on))) =
       absurd (again_else (Connect on.context on.session tries) refl g.context g.session g.link
       g.lease g.keep g.e (sym on.goes_on ∙ g.is))
-  again_moved w x (Connect context session tries) next settled g (inr (inr (inr owes))) =
+  again_moved log w x (Connect context session tries) next settled g (inr (inr (inr owes))) =
       absurd (subst (λ (k : Phase L C). OwesAnswer k) g.is owes)
-  again_moved w x (Unlinked context session attempts error) next settled g moved =
+  again_moved log w x (Unlinked context session attempts error) next settled g moved =
       absurd (subst (λ (k : Phase L C). OwesAnswer k) g.is moved)
-  again_moved w x (Prepare context session link lease) next settled g (inl relays) =
+  again_moved log w x (Prepare context session link lease) next settled g (inl relays) =
       absurd (true≢false (sym relays ∙ ap (λ (k : Phase L C). is_relaying k) g.is))
-  again_moved w x (Prepare context session link lease) next settled g (inr owes) =
+  again_moved log w x (Prepare context session link lease) next settled g (inr owes) =
       absurd (subst (λ (k : Phase L C). OwesAnswer k) g.is owes)
-  again_moved w x (Relay a) next settled g (inl moved) =
+  again_moved log w x (Relay a) next settled g (inl moved) =
       absurd (again_else (Relay moved.1.held) refl g.context g.session g.link g.lease g.keep g.e
       (sym moved.1.goes_on ∙ g.is))
-  again_moved w x (Relay a) next settled g (inr owes) =
+  again_moved log w x (Relay a) next settled g (inr owes) =
       absurd (subst (λ (k : Phase L C). OwesAnswer k) g.is owes)
-  again_moved w x (Broken context session link lease keep e) next settled g (inl owes) =
+  again_moved log w x (Broken context session link lease keep e) next settled g (inl owes) =
       absurd (subst (λ (k : Phase L C). OwesAnswer k) g.is owes)
-  again_moved w x (Broken context session link lease keep e) next settled g (inr again) =
+  again_moved log w x (Broken context session link lease keep e) next settled g (inr again) =
       inr (again_settled (tries_in lease) next settled g again)
-  again_moved w x (Again context session link lease keep e) next settled g again =
+  again_moved log w x (Again context session link lease keep e) next settled g again =
       again_settled (tries_in lease) next settled g again
-  again_moved w x (Fail link lease keep session e) next settled g moved =
+  again_moved log w x (Fail link lease keep session e) next settled g moved =
       absurd (subst (λ (k : Phase L C). OwesAnswer k) g.is moved)
-  again_moved w x (Close link lease keep outcome) next settled g moved = absurd moved
-  again_moved w x (Answer session owed attempts) next settled g moved = moved
-  again_moved w x (Ended outcome attempts) next settled g moved = absurd moved
+  again_moved log w x (Close link lease keep outcome) next settled g moved = absurd moved
+  again_moved log w x (Answer session owed attempts) next settled g moved = moved
+  again_moved log w x (Ended outcome attempts) next settled g moved = absurd moved
 
   -- the cause of a turn is that of the step
-  pub settled_cause : (w x : World) (phase next settled : Phase L C) (did : RunStep)
-      (before after : Option (List (Returned L))) → Settles next before after settled
-      → is_over next ≡ is_end did → HandsOn next did
-      → HasCause state start_at w x phase next did
-      → HasCause state start_at w x phase settled did
-  settled_cause w x phase next settled step.Moved before after does over waits cause =
+  pub settled_cause : (log : List LogEntry) (w x : World) (phase next settled : Phase L C)
+      (did : RunStep) (before after : Option (List (Returned L)))
+      → Settles next before after settled → is_over next ≡ is_end did → HandsOn next did
+      → HasCause state start_at log w x phase next did
+      → HasCause state start_at log w x phase settled did
+  settled_cause log w x phase next settled step.Moved before after does over waits cause =
       elim (settles_live next settled before after does over) [
-        | inl same ↦ subst (λ (n : Phase L C). HasCause state start_at w x phase n step.Moved)
+        | inl same ↦ subst (λ (n : Phase L C). HasCause state start_at log w x phase n step.Moved)
             (sym same) cause
-        | inr (inl owes) ↦ owes_moved w x phase next settled owes.0 owes.1 cause
-        | inr (inr again) ↦ again_moved w x phase next settled again cause
+        | inr (inl owes) ↦ owes_moved log w x phase next settled owes.0 owes.1 cause
+        | inr (inr again) ↦ again_moved log w x phase next settled again cause
       ]
-  settled_cause w x phase next settled (step.Waited pause) before after does over waits cause =
-      subst (λ (n : Phase L C). HasCause state start_at w x phase n (step.Waited pause))
+  settled_cause log w x phase next settled (step.Waited pause) before after does over waits cause =
+      subst (λ (n : Phase L C). HasCause state start_at log w x phase n (step.Waited pause))
       (sym (settles_same next settled before after does (unclosed (is_closing next) refl)).0) cause
     where
       unclosed : (b : Bool) → is_closing next ≡ b → is_closing next ≡ false
       unclosed false is = is
       unclosed true is = elim (waits is) [ inl m ↦ absurd (cc) | inr m ↦ absurd (cc) ]
-  settled_cause w x phase next settled step.Ended before after does over waits cause = tt
+  settled_cause log w x phase next settled step.Ended before after does over waits cause = tt
 
   -- a turn of a request that has not ended, settled, is a step
   live_on : (s s' : Start) (p : Passed) (x : World) (phase next settled : Phase L C)
@@ -974,8 +976,10 @@ module _ {L C : Type 0} (state : L → LinkState) (start_at : L → LinkStart) w
     sent = holds.sent;
     relayable = holds.relayable;
     sends = holds.sends;
+    began = holds.began;
     under_way = subst (λ (r : Bool). IsUnderWay state start_at
-        (origin_of s holds.head holds.sent r) p w.client w.ahead a.value.exchange)
+        (origin_at s holds.head holds.sent r holds.began) p w.client w.ahead s.called
+        a.value.exchange)
         (sym holds.leased.reused) holds.under_way;
     silent = stalled;
   }
@@ -1242,8 +1246,13 @@ module _ {L C : Type 0} (state : L → LinkState) (start_at : L → LinkStart) w
   end_of s p [] w (Relay a) before after ending does run =
       linked_end s p w (Relay a) (link_of a.value.exchange) a.value.lease false before after
       ending TurnLimit does.limit does.back run run.holds.leased (
-        inl (part_relayed s p run.holds.head run.holds.sent a.value.lease.reused _ _
+        inl (part_relayed s p run.holds.head run.holds.sent a.value.lease.reused _ _ None
+            (filtering_of (origin_at s run.holds.head run.holds.sent a.value.lease.reused
+            run.holds.began) s.called a.value.exchange.down) run.holds.began
             run.holds.relayable run.holds.sends run.holds.leased.reused
+            (relaying_stands state start_at (origin_at s run.holds.head run.holds.sent
+            a.value.lease.reused run.holds.began) p w.client w.ahead s.called a.value.exchange
+            run.holds.at_sent run.holds.under_way)
             run.holds.under_way.order),
         refl,
       )

@@ -7,16 +7,13 @@ use Rattle.relay_tasks.specs.declared.log.LogEntry.{LogEntry}
 use Rattle.relay_links.specs.Connector.{Offer}
 use Rattle.relay_links.specs.Link.{LinkState, LinkStart, LinkItems}
 use Rattle.relay_links.specs.declared.Returned.{Returned}
-use Rattle.relay_request.specs.Closing.{Rests, Settles, TurnOf}
-use Rattle.relay_core.specs.Past.{Origin}
-use Rattle.relay_attempt.specs.Exchange.{IsUnderWay}
-use Rattle.relay_attempt.specs.Head.{link_of}
+use Rattle.relay_request.specs.Closing.{Rests, Settles}
 use Rattle.relay_attempt.specs.Passed.{Passed}
 use Rattle.relay_session.specs.declared.session.HttpSession.{HttpSession}
 use Rattle.relay_request.specs.Bound.{CountsCall, PhaseCounts, TurnedCounts}
 use Rattle.relay_request.specs.Calls.{IsUnended}
 use Rattle.relay_request.specs.Legs.{RepeatsOn}
-use Rattle.relay_request.specs.Passed.{World, Start, called_to, opened_to, origin_of}
+use Rattle.relay_request.specs.Passed.{World, Start, called_to, opened_to}
 use Rattle.relay_request.specs.Phases.{RunSoFar}
 use Rattle.relay_request.specs.Uses.{ClientUses, LinkUses, OwnUses, PhaseUses, TurnCounts}
 use Rattle.relay_request.specs.Refusals.{attempts_in, faults_before, faults_for, faults_of_turn}
@@ -28,7 +25,6 @@ use Rattle.relay_request.specs.Turn.{Advances, AdvancesOn, DoesWork, WorksIn, li
 use Rattle.relay_turns.proofs.BoundLemmas.{call_bounds}
 use Rattle.relay_turns.proofs.CountLemmas.{client_counts}
 use Rattle.relay_request.proofs.TreatLemmas.{still_open}
-use Rattle.relay_turns.proofs.UseLemmas.{relaying_of}
 use Rattle.relay_request.specs.declared.machine.Attempt.{Attempt}
 use Rattle.relay_request.specs.declared.machine.Lease.{Lease}
 use Rattle.relay_request.specs.declared.machine.Phase.{Phase}
@@ -43,34 +39,6 @@ pub none_unended : (log : List LogEntry) → log ≡ [] → IsUnended log
 none_unended log none = subst (λ (l : List LogEntry). IsUnended l) (sym none) refl
 
 module _ {L C : Type 0} (state : L → LinkState) (start_at : L → LinkStart) where
-  -- a turn of a phase that relays is one of a request that has not ended
-  pub relaying_turn : (s : Start) (p : Passed) (w x : World) (own : List (Returned L))
-      (phase next : Phase L C) → is_relaying phase ≡ true
-      → RunSoFar state start_at s p w own phase
-      → (RunSoFar state start_at s p w [] phase → Advances {C = C} state start_at s x next)
-      → TurnOf state start_at s x own phase next
-  relaying_turn s p w x own ReadHead next is run turn = absurd (true≢false (sym is))
-  relaying_turn s p w x own (Connect context session tries) next is run turn =
-      absurd (true≢false (sym is))
-  relaying_turn s p w x own (Unlinked context session attempts error) next is run turn =
-      absurd (true≢false (sym is))
-  relaying_turn s p w x own (Prepare context session link lease) next is run turn =
-      absurd (true≢false (sym is))
-  relaying_turn s p w x [] (Relay a) next is run turn = turn run
-  relaying_turn s p w x (r ∷ own) (Relay a) next is run turn = absurd run.holds
-  relaying_turn s p w x own (Broken context session link lease keep error) next is run turn =
-      absurd (true≢false (sym is))
-  relaying_turn s p w x own (Again context session link lease keep error) next is run turn =
-      absurd (true≢false (sym is))
-  relaying_turn s p w x own (Fail link lease keep session error) next is run turn =
-      absurd (true≢false (sym is))
-  relaying_turn s p w x own (Close link lease keep outcome) next is run turn =
-      absurd (true≢false (sym is))
-  relaying_turn s p w x own (Answer session owed attempts) next is run turn =
-      absurd (true≢false (sym is))
-  relaying_turn s p w x own (Ended outcome attempts) next is run turn =
-      absurd (true≢false (sym is))
-
   -- a turn that reads the head is one of a request that handed nothing back
   pub head_turn : (s s' : Start) (p : Passed) (w x : World) (own : List (Returned L))
       (next : Phase L C) → RunSoFar {C = C} state start_at s p w own ReadHead
@@ -208,74 +176,6 @@ module _ {L C : Type 0} (state : L → LinkState) (start_at : L → LinkStart) w
       ++ map Ok (items_held start_at phase)) (sym same)
       ∙ ap (λ (xs : List (Option LinkItems)). map Err (faults_before [] next) ++ map Ok xs)
       (sym items)
-
-  -- its uses are those of its exchange, which is under way
-  pub relaying_uses : (s : Start) (p : Passed) (own : List (Returned L)) (w : World)
-      (phase : Phase L C) (T : Type 0) → is_relaying phase ≡ true
-      → RunSoFar state start_at s p w own phase
-      → ((o : Origin) (q : Passed) (a : Box (Attempt L C)) → phase ≡ Relay a
-      → IsUnderWay state start_at o q w.client w.ahead a.value.exchange → T) → T
-  relaying_uses s p own w ReadHead T is run uses = absurd (true≢false (sym is))
-  relaying_uses s p own w (Broken context session link lease keep error) T is run uses =
-      absurd (true≢false (sym is))
-  relaying_uses s p own w (Again context session link lease keep error) T is run uses =
-      absurd (true≢false (sym is))
-  relaying_uses s p own w (Fail link lease keep session error) T is run uses =
-      absurd (true≢false (sym is))
-  relaying_uses s p own w (Answer session owed attempts) T is run uses =
-      absurd (true≢false (sym is))
-  relaying_uses s p own w (Connect context session tries) T is run uses =
-      absurd (true≢false (sym is))
-  relaying_uses s p own w (Unlinked context session attempts error) T is run uses =
-      absurd (true≢false (sym is))
-  relaying_uses s p own w (Prepare context session link lease) T is run uses =
-      absurd (true≢false (sym is))
-  relaying_uses s p own w (Relay a) T is run uses =
-      let relays = relaying_of state start_at s p w own a run in
-      uses (origin_of s relays.head relays.sent a.value.lease.reused) p a refl relays.under_way
-  relaying_uses s p own w (Close link lease keep outcome) T is run uses =
-      absurd (true≢false (sym is))
-  relaying_uses s p own w (Ended outcome attempts) T is run uses = absurd (true≢false (sym is))
-
-  -- so often were both links asked in it
-  pub relaying_counts : (s : Start) (p : Passed) (own : List (Returned L)) (w : World)
-      (client' : LinkState) (n used : ℕ) (phase next : Phase L C) → is_relaying phase ≡ true
-      → RunSoFar state start_at s p w own phase → PhaseUses state start_at n own phase
-      → ((o : Origin) (q : Passed) (a : Box (Attempt L C)) (m : ℕ) → phase ≡ Relay a
-      → IsUnderWay state start_at o q w.client w.ahead a.value.exchange
-      → LinkUses state start_at m (link_of a.value.exchange)
-      → TurnCounts state start_at m w.client client' used [] next)
-      → TurnCounts state start_at n w.client client' used own next
-  relaying_counts s p own w client' n used ReadHead next is run had counts =
-      absurd (true≢false (sym is))
-  relaying_counts s p own w client' n used (Broken context session link lease keep error) next is
-      run had counts =
-      absurd (true≢false (sym is))
-  relaying_counts s p own w client' n used (Again context session link lease keep error) next is run
-      had counts =
-      absurd (true≢false (sym is))
-  relaying_counts s p own w client' n used (Fail link lease keep session error) next is run had
-      counts =
-      absurd (true≢false (sym is))
-  relaying_counts s p own w client' n used (Answer session owed attempts) next is run had counts =
-      absurd (true≢false (sym is))
-  relaying_counts s p own w client' n used (Connect context session tries) next is run had counts =
-      absurd (true≢false (sym is))
-  relaying_counts s p own w client' n used (Unlinked context session attempts error) next is run had
-      counts =
-      absurd (true≢false (sym is))
-  relaying_counts s p own w client' n used (Prepare context session link lease) next is run had
-      counts =
-      absurd (true≢false (sym is))
-  relaying_counts s p [] w client' n used (Relay a) next is run had counts =
-      counts (origin_of s run.holds.head run.holds.sent a.value.lease.reused) p a n refl
-      run.holds.under_way had
-  relaying_counts s p (r ∷ own) w client' n used (Relay a) next is run had counts =
-      absurd run.holds
-  relaying_counts s p own w client' n used (Close link lease keep outcome) next is run had counts =
-      absurd (true≢false (sym is))
-  relaying_counts s p own w client' n used (Ended outcome attempts) next is run had counts =
-      absurd (true≢false (sym is))
 
   -- a phase that holds no link was asked as often as what was handed back
   pub unlinked_asked : (n : ℕ) (own : List (Returned L)) (next : Phase L C)

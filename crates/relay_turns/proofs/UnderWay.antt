@@ -13,7 +13,6 @@ use Rattle.relay_tasks.specs.declared.took.Pause.TheVariants.{NotReady, Silent}
 use Rattle.relay_peer.specs.Body.{IsFrontOf}
 use Rattle.relay_attempt.specs.Passed.{Passed}
 use Rattle.relay_request.specs.Bound.{IsBounded, IsWithin, LinkGave, OwnGave, PhaseCounts, most_sides, sides_before}
-use Rattle.relay_request.specs.Calls.{is_ending}
 use Rattle.relay_request.specs.Closing.{IsQuiet}
 use Rattle.relay_request.specs.ClosingHooks.{Gives}
 use Rattle.relay_request.specs.Endings.{IsEnded}
@@ -613,22 +612,26 @@ module _ {L C : Type 0} (state : L → LinkState) (start_at : L → LinkStart) w
       (stalled_limit x m.phase ends.came ends.comes (stalled is)) (stalled is)))
 
   -- where the call stops and the request has not ended, all that it asks is silent
-  pub stops_at : (w x y : World) (phase next : Phase L C) {K : Type 0} (here : At K C)
-      (did : RunStep) (outcome : Outcome) → is_stop did ≡ true
-      → HasCause state start_at w x phase next did
-      ⊎ ((is_ending next here ≡ true) × (did ≡ step.Moved))
+  pub stops_at : (log : List LogEntry) (w x y : World) (phase next : Phase L C) {K : Type 0}
+      (here : At K C) (did : RunStep) (outcome : Outcome) (T U : Type 0) → is_stop did ≡ true
+      → HasCause state start_at log w x phase next did
+      ⊎ (((did ≡ step.Moved) × T) ⊎ (U × (did ≡ step.Moved)))
       → is_done next here ≡ is_end did → y ≡ x
       → (is_done next here ≡ true → outcome ≢ TurnLimit)
       → outcome ≡ TurnLimit → IsStalled state start_at y next
-  stops_at w x y phase next here step.Moved outcome stops cause ends same over limit =
+  stops_at log w x y phase next here step.Moved outcome T U stops cause ends same over limit =
       absurd (true≢false (sym stops))
-  stops_at w x y phase next here (step.Waited NotReady) outcome stops cause ends same over limit =
-      absurd (true≢false (sym stops))
-  stops_at w x y phase next here (step.Waited Silent) outcome stops (inl cause) ends same over
+  stops_at log w x y phase next here (step.Waited NotReady) outcome T U stops cause ends same over
       limit =
+      absurd (true≢false (sym stops))
+  stops_at log w x y phase next here (step.Waited Silent) outcome T U stops (inl cause) ends same
+      over limit =
       subst (λ (z : World). IsStalled state start_at z next) (sym same) cause.stalled
-  stops_at w x y phase next here (step.Waited Silent) outcome stops (inr moved) ends same over
-      limit =
+  stops_at log w x y phase next here (step.Waited Silent) outcome T U stops (inr (inl moved)) ends
+      same over limit =
+      let other : step.Waited Silent ≡ step.Moved = moved.0 in absurd (cc)
+  stops_at log w x y phase next here (step.Waited Silent) outcome T U stops (inr (inr moved)) ends
+      same over limit =
       let other : step.Waited Silent ≡ step.Moved = moved.1 in absurd (cc)
-  stops_at w x y phase next here step.Ended outcome stops cause ends same over limit =
+  stops_at log w x y phase next here step.Ended outcome T U stops cause ends same over limit =
       absurd (over ends limit)

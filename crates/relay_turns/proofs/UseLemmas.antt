@@ -7,6 +7,7 @@ use Rattle.std.specs.Global.{Box}
 use Rattle.std.proofs.Common.{◌≡◌, ℕ, ◌≤◌, Bool, true, false, ◌↔◌, ◌⊎◌, List, [], ◌∷◌, Option, None, Some, refl, sym, ap, ◌∙◌, subst, inl, inr, arith}
 use Rattle.std.specs.Prelude.{IsTrue, if◌then◌else◌}
 use Rattle.std.proofs.lemmas.Bool.{cases_lt}
+use Rattle.relay_tasks.specs.declared.log.LogEntry.{LogEntry}
 use Rattle.relay_links.specs.Count.{last_count, up, Rose}
 use Rattle.relay_links.specs.Link.{LinkState, LinkStart}
 use Rattle.relay_links.specs.Told.{more}
@@ -17,7 +18,7 @@ use Rattle.relay_core.specs.Table.{State}
 use Rattle.relay_core.specs.Uses.{AsksEither, AsksNone, MayAsk}
 use Rattle.relay_exchange.specs.Exchange as over
 use Rattle.relay_attempt.specs.Passed.{Passed}
-use Rattle.relay_attempt.specs.declared.h1_exchange.H1Exchange.{H1Exchange}
+use Rattle.relay_hooked.specs.declared.exchange.HookedExchange.{HookedExchange}
 use Rattle.relay_request.specs.Closing.{Settles}
 use Rattle.relay_request.specs.Passed.{World, Start}
 use Rattle.relay_request.specs.Phases.{IsRelaying, RunSoFar}
@@ -212,13 +213,14 @@ module _ {L C : Type 0} (state : L → LinkState) (start_at : L → LinkStart) w
   )
 
   -- a turn that moved left a phase that settling leaves
-  moved_settled : (w x : World) (work : Work) (a : H1Exchange L) (next settled : Phase L C)
-      (before after : Option (List (Returned L))) → Settles next before after settled
-      → MovedBy state start_at w x work a next → MovedBy state start_at w x work a settled
-  moved_settled w x work a next settled before after does moves =
+  moved_settled : (log : List LogEntry) (w x : World) (work : Work) (a : HookedExchange L)
+      (next settled : Phase L C) (before after : Option (List (Returned L)))
+      → Settles next before after settled
+      → MovedBy state start_at log w x work a next → MovedBy state start_at log w x work a settled
+  moved_settled log w x work a next settled before after does moves =
       let does : Settles (Relay moves.moved.held) before after settled =
       subst (λ (n : Phase L C). Settles n before after settled) moves.moved.goes_on does in
-      subst (λ (n : Phase L C). MovedBy state start_at w x work a n)
+      subst (λ (n : Phase L C). MovedBy state start_at log w x work a n)
       (moves.moved.goes_on ∙ sym does.0) moves
 
   -- a phase that owes its client an answer still does once it is settled
@@ -241,21 +243,23 @@ module _ {L C : Type 0} (state : L → LinkState) (start_at : L → LinkStart) w
       subst (λ (n : Phase L C). OwesAnswer n) (sym does.0) owes
   owes_settled (Ended outcome attempts) settled before after does owes = absurd owes
 
-  -- what a turn of an exchange did, its step did
-  pub settled_moves : (w x : World) (work : Work) (a : H1Exchange L) (next settled : Phase L C)
+  -- what a turn of an exchange did, its step did; or its log grew
+  pub settled_moves : {Grew : Type 0} (log : List LogEntry) (w x : World) (work : Work)
+      (a : HookedExchange L) (next settled : Phase L C)
       (before after : Option (List (Returned L))) → Settles next before after settled
-      → MovedBy state start_at w x work a next ⊎ OwesAnswer next
-      → MovedBy state start_at w x work a settled ⊎ OwesAnswer settled
-  settled_moves w x work a next settled before after does (inl moves) =
-      inl (moved_settled w x work a next settled before after does moves)
-  settled_moves w x work a next settled before after does (inr owes) =
-      inr (owes_settled next settled before after does owes)
+      → MovedBy state start_at log w x work a next ⊎ (OwesAnswer next ⊎ Grew)
+      → MovedBy state start_at log w x work a settled ⊎ (OwesAnswer settled ⊎ Grew)
+  settled_moves log w x work a next settled before after does (inl moves) =
+      inl (moved_settled log w x work a next settled before after does moves)
+  settled_moves log w x work a next settled before after does (inr (inl owes)) =
+      inr (inl (owes_settled next settled before after does owes))
+  settled_moves log w x work a next settled before after does (inr (inr grew)) = inr (inr grew)
 
   -- with what was counted before, and after it
-  pub moves_on : (before after turn : Work) (w x : World) (a : H1Exchange L) (next : Phase L C)
-      → after ≡ added_work before turn
-      → MovedBy state start_at w x turn a next ⊎ OwesAnswer next
-      → MovesOn state start_at w x before after a next ⊎ OwesAnswer next
-  moves_on before after turn w x a next adds (inl moves) =
+  pub moves_on : {Grew : Type 0} (log : List LogEntry) (before after turn : Work) (w x : World)
+      (a : HookedExchange L) (next : Phase L C) → after ≡ added_work before turn
+      → MovedBy state start_at log w x turn a next ⊎ (OwesAnswer next ⊎ Grew)
+      → MovesOn state start_at log w x before after a next ⊎ (OwesAnswer next ⊎ Grew)
+  moves_on log before after turn w x a next adds (inl moves) =
       inl (record { work = turn; moves = moves; adds = adds })
-  moves_on before after turn w x a next adds (inr owes) = inr owes
+  moves_on log before after turn w x a next adds (inr rest) = inr rest

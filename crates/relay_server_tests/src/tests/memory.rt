@@ -1,7 +1,7 @@
 //! Serving clients in memory.
-use super::support::{ANSWER, MemoryPoller, REQUEST, SENT, WRITTEN};
+use super::support::{ANSWER, MemoryPoller, REQUEST, SENT, WRITTEN, link};
 use bytes::Bytes;
-use relay_links::{MemoryPurger, PeerScript, Poller, ReadItem, ScriptConnector, ScriptLink};
+use relay_links::{MemoryPurger, PeerScript, Poller, ScriptConnector, ScriptLink};
 use relay_proxy::{Defaults, HttpProxy, ServerConf};
 use relay_server::{ServeEnd, serve_with};
 use relay_tasks::{Peer, Purged};
@@ -11,15 +11,6 @@ use std::str;
 use std::test::Fail;
 
 type Proxy = HttpProxy<Defaults, ScriptConnector, MemoryPurger>;
-
-/// A link that gives these texts, and is then silent.
-fn link(alloc: Global, texts: &[&'static str]) -> Result<ScriptLink, Fail> {
-    let mut items = Vec::new(alloc);
-    for text in texts {
-        items.push(ReadItem::Bytes(Bytes::from_static(text.as_bytes())))?;
-    }
-    Ok(ScriptLink::new(alloc, items, Vec::new(alloc)))
-}
 
 /// A proxy whose peer answers so many requests, each on a connection of its own.
 fn proxy(alloc: Global, answers: usize) -> Result<Proxy, Fail> {

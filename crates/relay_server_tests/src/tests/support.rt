@@ -1,9 +1,11 @@
-//! What the tests of the server share: one request and its answer, and a poller in memory.
+//! What the tests of the server share: one request and its answer, and links and a poller in memory.
 ghost use Rattle.std.specs.Prelude.{None};
 
-use relay_links::{Listening, Polled, Poller, ScriptLink};
+use bytes::Bytes;
+use relay_links::{Listening, Polled, Poller, ReadItem, ScriptLink};
 use std::alloc::Global;
 use std::collections::VecDeque;
+use std::test::Fail;
 
 /// A request, and what the peer is sent of it.
 pub(super) const REQUEST: &str = "GET /a HTTP/1.1\r\nHost: h.example\r\n\r\n";
@@ -14,6 +16,15 @@ pub(super) const SENT: &str = "GET /a HTTP/1.1\r\nhost: h.example\r\n\r\n";
 pub(super) const ANSWER: &str = "HTTP/1.1 200 OK\r\nContent-Length: 2\r\n\r\nhi";
 
 pub(super) const WRITTEN: &str = "HTTP/1.1 200 OK\r\ncontent-length: 2\r\n\r\nhi";
+
+/// A link that gives these texts, and is then silent.
+pub(super) fn link(alloc: Global, texts: &[&'static str]) -> Result<ScriptLink, Fail> {
+    let mut items = Vec::new(alloc);
+    for text in texts {
+        items.push(ReadItem::Bytes(Bytes::from_static(text.as_bytes())))?;
+    }
+    Ok(ScriptLink::new(alloc, items, Vec::new(alloc)))
+}
 
 /// A poller over links in memory. It keeps each link that is closed, and its waits fail after so
 /// many.

@@ -64,8 +64,8 @@ returns-in-OutOfMemory-clause-run g c = λ s p own faults run.
 
 -- it went on because the link took bytes
 pub returns-in-Took-clause-cause : goal.returns-in-Took-clause-cause
-returns-in-Took-clause-cause g c = λ faults.
-    moved_or_ended {C = g.row.C.Denot} g.L.ByteLink.state g.L.ByteLink.start
+returns-in-Took-clause-cause g c = λ log faults.
+    moved_or_ended {C = g.row.C.Denot} g.L.ByteLink.state g.L.ByteLink.start log
     (world_of g.D.ByteLink.state c.args.client.now faults)
     (world_of g.D.ByteLink.state c.offer.new.client faults)
     (Answer c.args.session c.args.owed c.args.attempts) c.took.result.phase c.took.result.step

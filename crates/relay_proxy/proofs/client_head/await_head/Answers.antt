@@ -17,19 +17,19 @@ returns-in-Ok-Bytes-clause-run g c = λ s p faults run open_head.
 
 -- it went on because the link gave bytes
 pub returns-in-Ok-Bytes-clause-cause : goal.returns-in-Ok-Bytes-clause-cause
-returns-in-Ok-Bytes-clause-cause g c = λ faults open_head.
+returns-in-Ok-Bytes-clause-cause g c = λ log faults open_head.
     let more = rw c.in-Ok-Bytes.field-0-is at c.in-Ok-Bytes.ensures.ok in
     inl (more.room, _, more.gives)
 
 -- it waits because the link answered so
 pub returns-in-Ok-NotReady-clause-cause : goal.returns-in-Ok-NotReady-clause-cause
-returns-in-Ok-NotReady-clause-cause g c = λ faults open_head.
+returns-in-Ok-NotReady-clause-cause g c = λ log faults open_head.
     let waits = rw c.in-Ok-NotReady.field-0-is at c.in-Ok-NotReady.ensures.ok in
     inl waits.0.waits
 
 -- in silence the read asks a silent link, which has not changed
 pub returns-in-Ok-Silent-clause-cause : goal.returns-in-Ok-Silent-clause-cause
-returns-in-Ok-Silent-clause-cause g c = λ faults open_head.
+returns-in-Ok-Silent-clause-cause g c = λ log faults open_head.
     let still = rw c.in-Ok-Silent.field-0-is at c.in-Ok-Silent.ensures.ok in
     record {
       stalled = (

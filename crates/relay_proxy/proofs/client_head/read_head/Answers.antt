@@ -50,17 +50,17 @@ returns-in-Err-Error-clause-run g c = λ s p faults none run.
 
 -- an open head has the cause of its read
 pub returns-in-Ok-None-clause-cause : goal.returns-in-Ok-None-clause-cause
-returns-in-Ok-None-clause-cause g c = λ faults.
-    (rw c.judge_request.ensures.same at (c.await_head.ensures.cause faults))
+returns-in-Ok-None-clause-cause g c = λ log faults.
+    (rw c.judge_request.ensures.same at (c.await_head.ensures.cause log faults))
     (rw c.in-Ok-None.field-0-is at c.in-Ok-None.ensures.verdict)
 
 -- a head that was found has the cause of its taking
 pub returns-in-Ok-Some-clause-cause : goal.returns-in-Ok-Some-clause-cause
-returns-in-Ok-Some-clause-cause g c = λ faults.
-    rw c.judge_request.ensures.same at (c.take_head.ensures.cause faults)
+returns-in-Ok-Some-clause-cause g c = λ log faults.
+    rw c.judge_request.ensures.same at (c.take_head.ensures.cause log faults)
 
 -- a bad head has the cause of its answer
 pub returns-in-Err-Error-clause-cause : goal.returns-in-Err-Error-clause-cause
-returns-in-Err-Error-clause-cause g c = λ faults.
-    c.give_answer.ensures.cause (world_of g.D.ByteLink.state c.args.client.now faults)
+returns-in-Err-Error-clause-cause g c = λ log faults.
+    c.give_answer.ensures.cause log (world_of g.D.ByteLink.state c.args.client.now faults)
     (world_of g.D.ByteLink.state c.judge_request.new.self faults)

@@ -21,9 +21,9 @@ returns-in-Err-clause-run g c = λ s p faults none run has.
 
 -- its cause is that of the answer
 pub returns-in-Err-clause-cause : goal.returns-in-Err-clause-cause
-returns-in-Err-clause-cause g c = λ faults.
+returns-in-Err-clause-cause g c = λ log faults.
     let w = world_of g.D.ByteLink.state c.args.client.now faults in
-    c.give_answer.ensures.cause w w
+    c.give_answer.ensures.cause log w w
 
 -- a request for a tunnel is turned down
 pub returns-then-is_connect-clause-run : goal.returns-then-is_connect-clause-run
@@ -34,9 +34,9 @@ returns-then-is_connect-clause-run g c = λ s p faults none run has.
 
 -- the cause is that of the answer
 pub returns-then-is_connect-clause-cause : goal.returns-then-is_connect-clause-cause
-returns-then-is_connect-clause-cause g c = λ faults.
+returns-then-is_connect-clause-cause g c = λ log faults.
     let w = world_of g.D.ByteLink.state c.args.client.now faults in
-    c.give_answer-then-is_connect.ensures.cause w w
+    c.give_answer-then-is_connect.ensures.cause log w w
 
 -- any other is looked at further
 pub returns-clause-run : goal.returns-clause-run

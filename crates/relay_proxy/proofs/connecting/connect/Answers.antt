@@ -73,8 +73,8 @@ returns-in-Err-get-clause-asks g c =
 
 -- where none was given the cause is that of the refusal
 pub returns-in-Err-get-clause-cause : goal.returns-in-Err-get-clause-cause
-returns-in-Err-get-clause-cause g c = λ client ahead.
-    rw c.in-Ok.ensures.ok at (c.refused_link.ensures.cause
+returns-in-Err-get-clause-cause g c = λ log client ahead.
+    rw c.in-Ok.ensures.ok at (c.refused_link.ensures.cause log
     (world_with client ahead (g.K.Connector.fault_count c.args.connector.now))
     (world_with client ahead (g.K.Connector.fault_count c.get.new.self)))
 

@@ -45,8 +45,8 @@ returns-in-Ok-clause-calls g c = λ was o.
 
 -- that is what the turn moved
 pub returns-in-Ok-clause-cause : goal.returns-in-Ok-clause-cause
-returns-in-Ok-clause-cause g c = λ w x.
-    refused_moved g.L.ByteLink.state g.L.ByteLink.start w x c.args.context
+returns-in-Ok-clause-cause g c = λ log w x.
+    refused_moved g.L.ByteLink.state g.L.ByteLink.start log w x c.args.context
     c.treat_unlinked.new.context c.args.session _ c.args.lacking.room.items.items
     c.record-attempts.result _ c.into_up-error.result c.go_on.result.phase c.go_on.result.step
     c.go_on.ensures.step c.record-attempts.ensures c.go_on.ensures.follows

@@ -96,7 +96,7 @@ returns-in-Answered g c =
           (as_begun_parts c.args.session.value c.requires.begun).1).at)
           (kept_whole c.args.session.value.reading
           (as_begun_parts c.args.session.value c.requires.begun).0) turns b);
-      cause = λ w x. rw c.closed.ensures.step tt;
+      cause = λ log w x. rw c.closed.ensures.step tt;
       work = rw (c.closed.ensures.step, c.closed.ensures.work) (omega arith);
       called = none_called _ _ c.closed.result.work (rw c.closed.ensures.work refl) same;
       counts = rw (c.closed.ensures.phase, c.closed.ensures.work) (refl, omega arith, refl);

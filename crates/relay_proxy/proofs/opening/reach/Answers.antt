@@ -21,8 +21,8 @@ returns-in-Some-clause-run g c = λ s p client ahead limit o run.
     (world_with client ahead (g.K.Connector.fault_count c.args.connector.now)) o run
 
 pub returns-in-Some-clause-cause : goal.returns-in-Some-clause-cause
-returns-in-Some-clause-cause g c = λ client ahead.
-    c.answer.ensures.cause
+returns-in-Some-clause-cause g c = λ log client ahead.
+    c.answer.ensures.cause log
     (world_with client ahead (g.K.Connector.fault_count c.args.connector.now))
 
 -- and the connector is not asked
@@ -47,8 +47,8 @@ returns-then-is_calling-clause-run g c = λ s p client ahead limit o run.
     (still_open s (log_of c.args.calls.now) o.unended) run))
 
 pub returns-then-is_calling-clause-cause : goal.returns-then-is_calling-clause-cause
-returns-then-is_calling-clause-cause g c = λ client ahead.
-    c.open.ensures.cause
+returns-then-is_calling-clause-cause g c = λ log client ahead.
+    c.open.ensures.cause log
     (world_with client ahead (g.K.Connector.fault_count c.args.connector.now))
 
 -- and the connector is not asked
@@ -121,8 +121,8 @@ returns-in-Some-purge-clause-run g c = λ s p client ahead limit o run.
     (still_open s (log_of c.args.calls.now) o.unended) run))
 
 pub returns-in-Some-purge-clause-cause : goal.returns-in-Some-purge-clause-cause
-returns-in-Some-purge-clause-cause g c = λ client ahead.
-    c.purge-in-Some-purge.ensures.cause
+returns-in-Some-purge-clause-cause g c = λ log client ahead.
+    c.purge-in-Some-purge.ensures.cause log
     (world_with client ahead (g.K.Connector.fault_count c.args.connector.now))
 
 pub returns-in-Some-purge-clause-asks : goal.returns-in-Some-purge-clause-asks

@@ -1,38 +1,90 @@
--- The exchange is under way over the link and its attempt is held, or memory was wanted for one of
--- both.
+-- The exchange is under way over the link and its attempt is held; or what was kept of the body did
+-- not pass its filter; or memory was wanted.
 use Rattle.std.proofs.Common.{refl}
-use Rattle.relay_turns.proofs.PrepareSteps.{begun, memory_alone, not_begun}
+use Rattle.relay_request.specs.Calls.{log_of}
+use Rattle.relay_request.specs.Endings.{IsInOrder}
+use Rattle.relay_request.specs.Passed.{opened_to}
+use Rattle.relay_request.specs.Turn.{world_with}
+use Rattle.relay_turns.proofs.OpenSteps.{called_tells}
+use Rattle.relay_turns.proofs.PrepareSteps.{begun_calls, begun_enters, begun_relays, framed_unbegun, unbegun_calls, unbegun_enters, unbegun_run}
 use Rattle.relay_proxy.proofs.preparing.begin.Goals as goal
 
 -- the exchange is under way over the link that was handed out
 pub returns-in-Ok-clause-run : goal.returns-in-Ok-clause-run
-returns-in-Ok-clause-run g c = λ s p w run sends.
-    c.hold.ensures.run s p w run.tells run.order run.calm
-    (begun g.L.ByteLink.state g.L.ByteLink.start s p w c.args.context c.args.session c.args.head
-    c.args.link
-    (record { exchange = c.in-Ok.exchange; lease = c.args.lease; context = c.args.context }) run
-    sends (rw c.into_inner.ensures at c.in-Ok.ensures.begins)
-    (rw c.into_inner.ensures at c.in-Ok.ensures.session))
+returns-in-Ok-clause-run g c = λ s p front faults run sends at_sent.
+    let w = world_with (g.F.Front.state front) (g.F.Front.ahead front) faults in
+    let k = run.holds.1.connecting in
+    c.hold.ensures.run (opened_to s c.begin.new.session.seen.log) p w
+    (called_tells s (log_of c.args.calls.now) c.begin.new.session.seen.log p w run.tells)
+    (IsInOrder.is_nothing k.written k.unsent.sent) run.calm
+    (begun_relays g.L.ByteLink.state g.L.ByteLink.start (g.SV.ProxyHttp.allows c.args.app.now)
+    g.SV.Modules.HttpModule.allows (g.SV.ProxyHttp.mark_of c.args.app.now) c.args.calls.now
+    (record { session = c.begin.new.session; at = c.args.calls.now.at }) refl c.args.context
+    c.args.session
+    (record { exchange = c.in-Ok.exchange; lease = c.args.lease; context = c.begin.new.ctx })
+    (rw c.into_inner-client.ensures at c.in-Ok.ensures.calls) s p w c.args.link c.args.head run
+    sends at_sent (rw c.into_inner-client.ensures at c.in-Ok.ensures.client)
+    c.in-Ok.ensures.at_first
+    ((rw c.into_inner-client.ensures at c.in-Ok.ensures.begins) front))
 
--- its head has a framing, so it is not begun for want of memory alone
-pub unbegun-requires : goal.unbegun-requires
-unbegun-requires g c =
-    memory_alone c.args.head _ c.in-Err.field-0 refl c.in-Err.ensures.refused
-    c.in-Err.ensures.causes c.requires
+-- its calls so far, those of filters
+pub returns-in-Ok-clause-calls : goal.returns-in-Ok-clause-calls
+returns-in-Ok-clause-calls g c =
+    begun_calls g.L.ByteLink.state g.L.ByteLink.start (g.SV.ProxyHttp.allows c.args.app.now)
+    g.SV.Modules.HttpModule.allows (g.SV.ProxyHttp.mark_of c.args.app.now) c.args.calls.now
+    (record { session = c.begin.new.session; at = c.args.calls.now.at }) refl c.args.context
+    c.args.session
+    (record { exchange = c.in-Ok.exchange; lease = c.args.lease; context = c.begin.new.ctx })
+    (rw c.into_inner-client.ensures at c.in-Ok.ensures.calls) c.hold.result.phase
+    c.hold.ensures.comes c.in-Ok.ensures.alive
 
--- an exchange that was not begun gives its link back
-pub returns-in-Err-clause-run : goal.returns-in-Err-clause-run
-returns-in-Err-clause-run g c = λ s p w run sends.
-    rw c.unbegun.ensures.phase
-    (not_begun g.L.ByteLink.state g.L.ByteLink.start s p w c.args.context c.args.session
-    c.args.link _ c.args.lease c.in-Err.ensures.link run)
+pub returns-in-Ok-clause-enters : goal.returns-in-Ok-clause-enters
+returns-in-Ok-clause-enters g c =
+    begun_enters g.L.ByteLink.state g.L.ByteLink.start (g.SV.ProxyHttp.allows c.args.app.now)
+    g.SV.Modules.HttpModule.allows (g.SV.ProxyHttp.mark_of c.args.app.now) c.args.calls.now
+    (record { session = c.begin.new.session; at = c.args.calls.now.at }) refl c.args.context
+    c.args.session
+    (record { exchange = c.in-Ok.exchange; lease = c.args.lease; context = c.begin.new.ctx })
+    (rw c.into_inner-client.ensures at c.in-Ok.ensures.calls)
 
 -- the link was asked as often as it was
 pub returns-in-Ok-clause-asked : goal.returns-in-Ok-clause-asked
 returns-in-Ok-clause-asked g c = λ n had.
     c.hold.ensures.asked n (rw c.in-Ok.ensures.over had)
 
--- and so was one over which the exchange was not begun
-pub returns-in-Err-clause-asked : goal.returns-in-Err-clause-asked
-returns-in-Err-clause-asked g c = λ n had.
-    rw (c.unbegun.ensures.phase, c.in-Err.ensures.link) had
+-- an exchange that was not begun gives its link back
+pub returns-in-Err-clause-run : goal.returns-in-Err-clause-run
+returns-in-Err-clause-run g c = λ s p front faults run sends at_sent.
+    unbegun_run g.L.ByteLink.state g.L.ByteLink.start (g.SV.ProxyHttp.allows c.args.app.now)
+    g.SV.Modules.HttpModule.allows (g.SV.ProxyHttp.mark_of c.args.app.now) c.args.calls.now
+    (record { session = c.begin.new.session; at = c.args.calls.now.at }) refl c.args.context
+    c.args.session c.in-Err.unbegun c.begin.new.ctx
+    (framed_unbegun c.args.calls.now.session c.args.context c.args.session.value _
+    (g.SV.ProxyHttp.mark_of c.args.app.now) c.args.head
+    c.begin.new.session c.begin.new.ctx c.in-Err.unbegun c.requires
+    (rw c.into_inner-client.ensures at c.in-Err.ensures.causes)) s p
+    (world_with (g.F.Front.state front) (g.F.Front.ahead front) faults) c.args.link c.args.lease
+    c.break_unbegun.result.phase c.break_unbegun.ensures.comes c.in-Err.ensures.link_back run
+
+pub returns-in-Err-clause-calls : goal.returns-in-Err-clause-calls
+returns-in-Err-clause-calls g c =
+    unbegun_calls g.L.ByteLink.state g.L.ByteLink.start (g.SV.ProxyHttp.allows c.args.app.now)
+    g.SV.Modules.HttpModule.allows (g.SV.ProxyHttp.mark_of c.args.app.now) c.args.calls.now
+    (record { session = c.begin.new.session; at = c.args.calls.now.at }) refl c.args.context
+    c.args.session c.in-Err.unbegun c.begin.new.ctx
+    (framed_unbegun c.args.calls.now.session c.args.context c.args.session.value _
+    (g.SV.ProxyHttp.mark_of c.args.app.now) c.args.head
+    c.begin.new.session c.begin.new.ctx c.in-Err.unbegun c.requires
+    (rw c.into_inner-client.ensures at c.in-Err.ensures.causes)) c.args.lease
+    c.break_unbegun.result.phase c.break_unbegun.ensures.comes
+
+pub returns-in-Err-clause-enters : goal.returns-in-Err-clause-enters
+returns-in-Err-clause-enters g c =
+    unbegun_enters g.L.ByteLink.state g.L.ByteLink.start (g.SV.ProxyHttp.allows c.args.app.now)
+    g.SV.Modules.HttpModule.allows (g.SV.ProxyHttp.mark_of c.args.app.now) c.args.calls.now
+    (record { session = c.begin.new.session; at = c.args.calls.now.at }) refl c.args.context
+    c.args.session c.in-Err.unbegun c.begin.new.ctx
+    (framed_unbegun c.args.calls.now.session c.args.context c.args.session.value _
+    (g.SV.ProxyHttp.mark_of c.args.app.now) c.args.head
+    c.begin.new.session c.begin.new.ctx c.in-Err.unbegun c.requires
+    (rw c.into_inner-client.ensures at c.in-Err.ensures.causes))

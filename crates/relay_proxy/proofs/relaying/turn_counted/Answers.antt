@@ -1,5 +1,9 @@
 -- What a turn of an exchange says, and the counts of uses that were read around it.
-use Rattle.relay_attempt.specs.Head.{link_of}
+use Rattle.std.proofs.Common.{refl}
+use Rattle.relay_filters.specs.Hooked.{is_lost}
+use Rattle.relay_hooked.specs.Head.{link_of}
+use Rattle.relay_request.specs.Calls.{allowed_by, seen_with}
+use Rattle.relay_turns.proofs.RelaySteps.{entries_of}
 use Rattle.relay_turns.proofs.UseLemmas.{measured}
 use Rattle.relay_proxy.proofs.relaying.turn_counted.Goals as goal
 
@@ -14,12 +18,23 @@ returns-clause-turns g c = record {
   counts = c.turn_over-turn.ensures.counts;
   calm = c.turn_over-turn.ensures.calm;
   same_start = c.turn_over-turn.ensures.peer_start;
-  same_head = c.turn_over-turn.ensures.head;
+  same_first = c.turn_over-turn.ensures.at_first;
   measured = measured (g.D.ByteLink.state c.args.client.now.link)
       (g.D.ByteLink.state c.turn_over-turn.new.client.link)
-      (g.L.ByteLink.state (link_of c.args.exchange.now))
+      (g.L.ByteLink.state (link_of c.args.attempt.now.exchange))
       (g.L.ByteLink.state (link_of c.turn_over-turn.new.exchange)) c.of-before.result c.of.result
       c.have_risen-asked.result c.have_risen-asked.ensures.rose
       c.have_risen-asked.ensures.client_fits c.have_risen-asked.ensures.upstream_fits
       c.of-before.ensures c.of.ensures;
 }
+
+-- the calls that it entered
+pub returns-clause-enters : goal.returns-clause-enters
+returns-clause-enters g c = record { walks = c.turn_over-turn.ensures.walks; stands = refl }
+
+-- each of them is a filter's
+pub returns-clause-entries : goal.returns-clause-entries
+returns-clause-entries g c =
+    entries_of (allowed_by (g.SV.ProxyHttp.allows c.args.hooks.now) g.SV.Modules.HttpModule.allows)
+    (is_lost c.args.attempt.now.exchange.down.stopped)
+    (is_lost c.turn_over-turn.new.exchange.down.stopped) _ _ _ _ c.turn_over-turn.ensures.walks

@@ -29,10 +29,10 @@ returns-in_default-clause-moves g c = λ s p under.
 pub returns-in-Some-clause-counts : goal.returns-in-Some-clause-counts
 returns-in-Some-clause-counts g c = λ s tasks ends counted.
     rw (c.set_kept.ensures, c.take_kept.ensures.after)
-    ((rw c.take_kept-kept.ensures.after at (c.turn-turn.ensures.counts s tasks ends)) counted)
+    ((rw c.take_kept-kept.ensures.after at (c.turn-turn.ensures.counts_on s tasks ends)) counted)
 
 -- and where none was kept
 pub returns-in_default-clause-counts : goal.returns-in_default-clause-counts
 returns-in_default-clause-counts g c = λ s tasks ends counted.
     rw c.take_kept.ensures.after
-    ((rw c.take_kept-kept.ensures.after at (c.turn-turn.ensures.counts s tasks ends)) counted)
+    ((rw c.take_kept-kept.ensures.after at (c.turn-turn.ensures.counts_on s tasks ends)) counted)

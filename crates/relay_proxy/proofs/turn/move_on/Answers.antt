@@ -8,9 +8,8 @@ use Rattle.relay_request.specs.declared.record.AttemptRecord.{AttemptRecord}
 use Rattle.relay_tasks.specs.declared.log.LogEntry.{LogEntry}
 use Rattle.relay_phases.specs.Order.{next_behind}
 use Rattle.relay_phases.specs.Order.{Station as station}
-use Rattle.relay_request.specs.Calls.{log_of, purge_at, station_at}
+use Rattle.relay_request.specs.Calls.{log_of}
 use Rattle.relay_request.specs.Purging.{AsksPurger}
-use Rattle.relay_request.specs.declared.calls.At.{At}
 use Rattle.relay_request.specs.Passed.{called_to}
 use Rattle.relay_request.specs.Turn.{world_of}
 use Rattle.relay_turns.proofs.BoundLemmas.{answer_bounds, head_turn_bounds, link_turn_bounds, send_turn_bounds, treat_turn_bounds}
@@ -20,7 +19,7 @@ use Rattle.relay_turns.proofs.TurnLemmas.{broken_counts, broken_faults, broken_o
 use Rattle.relay_request.proofs.CallLemmas.{none_called}
 use Rattle.relay_turns.proofs.CountLemmas.{client_both}
 use Rattle.relay_turns.proofs.LastCalls.{calls_logged, owing_on}
-use Rattle.relay_turns.proofs.PurgeSteps.{asks_nothing, asks_still, breaks_elsewhere, fails_elsewhere, opens_elsewhere}
+use Rattle.relay_turns.proofs.PurgeSteps.{asks_nothing, asks_still, breaks_elsewhere, fails_elsewhere}
 use Rattle.relay_proxy.proofs.turn.move_on.Goals as goal
 
 -- a turn that reads the head is a turn
@@ -90,7 +89,8 @@ returns-in-Connect-clause-stock g c =
 pub returns-in-ReadHead-clause-cause : goal.returns-in-ReadHead-clause-cause
 returns-in-ReadHead-clause-cause g c =
     rw (c.go_on.ensures.phase, c.go_on.ensures.step, sym c.replace.ensures.value ∙ c.in-ReadHead.is)
-    (c.read_head.ensures.cause (g.K.Connector.fault_count c.args.connector.now))
+    (c.read_head.ensures.cause (log_of c.args.calls.now)
+    (g.K.Connector.fault_count c.args.connector.now))
 
 -- the cause of a turn that writes the answer
 pub returns-in-Answer-clause-cause : goal.returns-in-Answer-clause-cause
@@ -100,7 +100,8 @@ returns-in-Answer-clause-cause g c =
       c.go_on-in-Answer.ensures.step,
       sym c.replace.ensures.value ∙ c.in-Answer.is,
     )
-    (c.write_answer.ensures.cause (g.K.Connector.fault_count c.args.connector.now))
+    (c.write_answer.ensures.cause (log_of c.args.calls.now)
+    (g.K.Connector.fault_count c.args.connector.now))
 
 -- a turn that reads the head hands no link back
 pub returns-in-ReadHead-clause-hands_on : goal.returns-in-ReadHead-clause-hands_on
@@ -130,7 +131,8 @@ returns-in-Connect-clause-cause g c =
       c.go_on-in-Connect.ensures.step,
       sym c.replace.ensures.value ∙ c.in-Connect.is,
     )
-    (c.reach.ensures.cause (g.D.ByteLink.state c.args.client.now.link) c.args.client.now.ahead)
+    (c.reach.ensures.cause (log_of c.args.calls.now) (g.D.ByteLink.state c.args.client.now.link)
+    c.args.client.now.ahead)
 
 -- a turn that reads the head adds no refusal of the connector
 pub returns-in-ReadHead-clause-refusals : goal.returns-in-ReadHead-clause-refusals
@@ -443,7 +445,7 @@ returns-in-Unlinked-clause-cause g c =
       c.go_on-in-Unlinked.ensures.step,
       sym c.replace.ensures.value ∙ c.in-Unlinked.is,
     )
-    (c.answer_unlinked.ensures.cause
+    (c.answer_unlinked.ensures.cause (log_of c.args.calls.now)
     (world_of g.D.ByteLink.state c.args.client.now
     (g.K.Connector.fault_count c.args.connector.now))
     (world_of g.D.ByteLink.state c.args.client.now
@@ -516,9 +518,8 @@ returns-in-Prepare-clause-turn g c =
     (g.K.Connector.fault_count c.args.connector.now)) own _ _ _ _ c.prepare.result.phase run
     (open_step g.K.Byte.ByteLink.state g.K.Byte.ByteLink.start s _ _ p _ _ _ _
     calls.0.unended (c.prepare.ensures.unended calls.0.unended)
-    (λ first. c.prepare.ensures.run s p
-    (world_of g.D.ByteLink.state c.args.client.now
-    (g.K.Connector.fault_count c.args.connector.now)) first)))
+    (λ first. c.prepare.ensures.run s p c.args.client.now
+    (g.K.Connector.fault_count c.args.connector.now) calls first)))
 
 -- its cause
 pub returns-in-Prepare-clause-cause : goal.returns-in-Prepare-clause-cause
@@ -528,7 +529,7 @@ returns-in-Prepare-clause-cause g c =
       c.go_on-in-Prepare.ensures.step,
       sym c.replace.ensures.value ∙ c.in-Prepare.is,
     )
-    (c.prepare.ensures.cause
+    (c.prepare.ensures.cause (log_of c.args.calls.now)
     (world_of g.D.ByteLink.state c.args.client.now
     (g.K.Connector.fault_count c.args.connector.now))
     (world_of g.D.ByteLink.state c.args.client.now
@@ -579,9 +580,8 @@ returns-in-Prepare-clause-bounds g c =
     c.prepare.result.work tasks ends run
     (open_step g.K.Byte.ByteLink.state g.K.Byte.ByteLink.start s _ _ p _ _ _ _
     calls.0.unended (c.prepare.ensures.unended calls.0.unended)
-    (λ first. c.prepare.ensures.run s p
-    (world_of g.D.ByteLink.state c.args.client.now
-    (g.K.Connector.fault_count c.args.connector.now)) first)) c.prepare.ensures.counts had)
+    (λ first. c.prepare.ensures.run s p c.args.client.now
+    (g.K.Connector.fault_count c.args.connector.now) calls first)) c.prepare.ensures.counts had)
 
 -- it holds the link that it held
 pub returns-in-Prepare-clause-carries : goal.returns-in-Prepare-clause-carries
@@ -620,7 +620,8 @@ returns-in-Broken-clause-cause g c =
       c.go_on-in-Broken.ensures.step,
       sym c.replace.ensures.value ∙ c.in-Broken.is,
     )
-    (c.fail.ensures.cause (g.K.Connector.fault_count c.args.connector.now))
+    (c.fail.ensures.cause (log_of c.args.calls.now)
+    (g.K.Connector.fault_count c.args.connector.now))
 
 -- it asks the client's link, or none
 pub returns-in-Broken-clause-uses : goal.returns-in-Broken-clause-uses
@@ -690,8 +691,9 @@ returns-in-Answer-clause-calls g c =
 pub returns-in-Answer-clause-called : goal.returns-in-Answer-clause-called
 returns-in-Answer-clause-called g c =
     rw c.go_on-in-Answer.ensures.work
-    (none_called c.args.calls.now c.write_answer.new.calls c.write_answer.result.work
-    c.write_answer.ensures.uncalled c.write_answer.ensures.log)
+    (let none = none_called c.args.calls.now c.write_answer.new.calls c.write_answer.result.work
+    c.write_answer.ensures.uncalled c.write_answer.ensures.log in
+    record { counted = none.counted; grows = none.grows })
 
 -- the purger is asked in the turn of a purge alone
 pub returns-in-ReadHead-clause-purger : goal.returns-in-ReadHead-clause-purger
@@ -716,12 +718,7 @@ returns-in-Unlinked-clause-purger g c =
 pub returns-in-Prepare-clause-purger : goal.returns-in-Prepare-clause-purger
 returns-in-Prepare-clause-purger g c =
     rw (c.go_on-in-Prepare.ensures.phase, sym c.replace.ensures.value ∙ c.in-Prepare.is) (λ o.
-    let logged = calls_logged _ _ c.prepare.new.calls c.prepare.result.phase
-    (c.prepare.ensures.calls o) in
-    asks_nothing _ _ c.args.calls.now c.prepare.new.calls c.prepare.result.phase
-    (station_at c.args.calls.now.at) logged.0 refl o.0.order
-    (opens_elsewhere c.args.calls.now.at (ap (λ (a : At _ _). purge_at a) o.1))
-    logged.1.order c.prepare.ensures.called.grows c.prepare.ensures.called.once)
+    AsksPurger.nothing refl c.prepare.ensures.purged)
 
 pub returns-in-Broken-clause-purger : goal.returns-in-Broken-clause-purger
 returns-in-Broken-clause-purger g c =

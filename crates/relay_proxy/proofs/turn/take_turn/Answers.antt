@@ -1,30 +1,40 @@
 -- A turn of a phase that relays asks no connector, and is a turn of the request.
-use Rattle.std.proofs.Common.{◌+◌, refl, sym, ◌∙◌}
-use Rattle.relay_request.specs.Calls.{log_of}
+use Rattle.std.specs.Global.{Box}
+use Rattle.std.proofs.Common.{◌≡◌, ◌+◌, List, [], Some, refl, sym, subst, ◌∙◌, inl, inr, true≢false}
+use Rattle.relay_links.specs.declared.Returned.{Returned}
+use Rattle.relay_request.specs.Bound.{PhaseCounts, TurnedCounts}
+use Rattle.relay_request.specs.Calls.{CallsSoFar, allowed_by, log_of}
+use Rattle.relay_request.specs.Closing.{TurnOf}
 use Rattle.relay_request.specs.Passed.{called_to}
-use Rattle.relay_request.specs.Turn.{world_of}
-use Rattle.relay_turns.proofs.BoundLemmas.{relay_turn_bounds}
-use Rattle.relay_request.proofs.CallLemmas.{none_called}
-use Rattle.relay_turns.proofs.LastCalls.{relaying_calls}
-use Rattle.relay_turns.proofs.PurgeSteps.{asks_still}
+use Rattle.relay_request.specs.Purging.{AsksPurger}
+use Rattle.relay_request.specs.Turn.{held_state, world_of}
+use Rattle.relay_request.specs.Uses.{PhaseUses, TurnCounts, TurnUses}
+use Rattle.relay_request.specs.declared.machine.Phase.{Phase}
 use Rattle.relay_turns.proofs.RefusalLemmas.{none_added}
+use Rattle.relay_turns.proofs.RelayingTurns.{relaying_exchanges, relaying_going, relaying_run, relaying_under, relays_turn}
 use Rattle.relay_turns.proofs.TakenLemmas.{takes_nothing}
-use Rattle.relay_turns.proofs.TurnLemmas.{relaying_turn, relaying_rests, relaying_uses, relaying_counts, relaying_works, relaying_tells, relaying_unrefused, relaying_takes, relaying_carries, not_relaying}
+use Rattle.relay_turns.proofs.TurnLemmas.{relaying_rests, relaying_works, relaying_tells, relaying_unrefused, relaying_takes, relaying_carries, not_relaying}
 use Rattle.relay_proxy.proofs.turn.take_turn.Goals as goal
 
 -- a turn of the attempt is a turn
 pub returns-then-is_relaying-clause-turn : goal.returns-then-is_relaying-clause-turn
-returns-then-is_relaying-clause-turn g c =
-    rw c.relay.ensures.log (λ s p own most first calls run.
-    relaying_turn g.K.Byte.ByteLink.state g.K.Byte.ByteLink.start
+returns-then-is_relaying-clause-turn g c = λ s p own most first calls run.
+    relaying_run g.K.Byte.ByteLink.state g.K.Byte.ByteLink.start
     (called_to s (log_of c.args.calls.now)) p
     (world_of g.D.ByteLink.state c.args.client.now
-    (g.K.Connector.fault_count c.args.connector.now))
+    (g.K.Connector.fault_count c.args.connector.now)) own c.args.phase.now
+    (λ (back : List (Returned g.row.K-Byte.Denot)).
+    TurnOf g.K.Byte.ByteLink.state g.K.Byte.ByteLink.start
+    (called_to s (log_of c.relay.new.calls))
     (world_of g.D.ByteLink.state c.relay.new.client
-    (g.K.Connector.fault_count c.args.connector.now)) own
-    c.args.phase.now c.relay.new.phase (sym c.is_relaying.ensures ∙ c.if-is_relaying.true) run
-    (λ going. c.relay.ensures.run (called_to s (log_of c.args.calls.now)) p
-    (g.K.Connector.fault_count c.args.connector.now) first going))
+    (g.K.Connector.fault_count c.args.connector.now)) back c.args.phase.now c.relay.new.phase)
+    (sym c.is_relaying.ensures ∙ c.if-is_relaying.true) run
+    (λ none. relays_turn g.K.Byte.ByteLink.state g.K.Byte.ByteLink.start
+    (called_to s (log_of c.relay.new.calls))
+    (world_of g.D.ByteLink.state c.relay.new.client
+    (g.K.Connector.fault_count c.args.connector.now)) c.args.phase.now c.relay.new.phase
+    (sym c.is_relaying.ensures ∙ c.if-is_relaying.true)
+    (c.relay.ensures.run s p (g.K.Connector.fault_count c.args.connector.now) first calls none))
 
 -- one of another phase does not heed how many calls had failed
 pub returns-clause-turn : goal.returns-clause-turn
@@ -36,6 +46,10 @@ pub returns-then-is_relaying-clause-cause : goal.returns-then-is_relaying-clause
 returns-then-is_relaying-clause-cause g c =
     c.relay.ensures.cause (g.K.Connector.fault_count c.args.connector.now)
 
+-- or that of the phase that does not relay
+pub returns-clause-cause : goal.returns-clause-cause
+returns-clause-cause g c = inl c.move_on.ensures.cause
+
 -- the request had not ended
 pub returns-then-is_relaying-clause-rests : goal.returns-then-is_relaying-clause-rests
 returns-then-is_relaying-clause-rests g c =
@@ -46,6 +60,11 @@ returns-then-is_relaying-clause-rests g c =
     (g.K.Connector.fault_count c.args.connector.now))
     c.args.phase.now c.relay.new.phase c.relay.result.step
     (sym c.is_relaying.ensures ∙ c.if-is_relaying.true)
+
+pub returns-then-is_relaying-clause-still : goal.returns-then-is_relaying-clause-still
+returns-then-is_relaying-clause-still g c = λ over.
+    absurd (true≢false (sym over
+    ∙ relaying_going c.args.phase.now (sym c.is_relaying.ensures ∙ c.if-is_relaying.true)))
 
 -- the turn did its work
 pub returns-then-is_relaying-clause-work : goal.returns-then-is_relaying-clause-work
@@ -81,29 +100,43 @@ returns-then-is_relaying-clause-carries g c = λ live.
 
 -- its uses are those of both links
 pub returns-then-is_relaying-clause-uses : goal.returns-then-is_relaying-clause-uses
-returns-then-is_relaying-clause-uses g c = λ s p own run.
-    relaying_uses g.K.Byte.ByteLink.state g.K.Byte.ByteLink.start s p own
+returns-then-is_relaying-clause-uses g c = λ s p own calls run.
+    relaying_under g.K.Byte.ByteLink.state g.K.Byte.ByteLink.start
+    (allowed_by (g.SV.ProxyHttp.allows c.args.hooks.now) g.SV.Modules.HttpModule.allows)
+    (g.SV.ProxyHttp.mark_of c.args.hooks.now) s p
     (world_of g.D.ByteLink.state c.args.client.now
-    (g.K.Connector.fault_count c.args.connector.now))
-    c.args.phase.now _ (sym c.is_relaying.ensures ∙ c.if-is_relaying.true) run
-    c.relay.ensures.uses
+    (g.K.Connector.fault_count c.args.connector.now)) c.args.calls.now own c.args.phase.now
+    (λ (back : List (Returned g.row.K-Byte.Denot)).
+    TurnUses c.relay.result.work.used (g.D.ByteLink.state c.args.client.now.link)
+    (g.D.ByteLink.state c.relay.new.client.link)
+    (held_state g.K.Byte.ByteLink.state c.args.phase.now)
+    (λ link. held_state g.K.Byte.ByteLink.state c.relay.new.phase ≡ Some link))
+    (sym c.is_relaying.ensures ∙ c.if-is_relaying.true) calls run c.relay.ensures.uses
+
+-- a phase that does not relay heeds no log in them
+pub returns-clause-uses : goal.returns-clause-uses
+returns-clause-uses g c = λ s p own calls run.
+    c.move_on.ensures.uses (called_to s (log_of c.args.calls.now)) p own run
 
 -- what it counted of tasks and ends is that of the exchange
 pub returns-then-is_relaying-clause-bounds : goal.returns-then-is_relaying-clause-bounds
-returns-then-is_relaying-clause-bounds g c =
-    rw c.relay.ensures.log (λ s p own tasks ends most calls run had.
-    relay_turn_bounds g.K.Byte.ByteLink.state g.K.Byte.ByteLink.start
+returns-then-is_relaying-clause-bounds g c = λ s p own tasks ends most calls run had.
+    relaying_run g.K.Byte.ByteLink.state g.K.Byte.ByteLink.start
     (called_to s (log_of c.args.calls.now)) p
     (world_of g.D.ByteLink.state c.args.client.now
-    (g.K.Connector.fault_count c.args.connector.now))
-    (world_of g.D.ByteLink.state c.relay.new.client
-    (g.K.Connector.fault_count c.args.connector.now)) own c.args.phase.now c.relay.new.phase tasks
-    ends (c.relay.result.work.moved + tasks) (c.relay.result.work.ended + ends)
+    (g.K.Connector.fault_count c.args.connector.now)) own c.args.phase.now
+    (λ (back : List (Returned g.row.K-Byte.Denot)).
+    PhaseCounts {C = g.row.SV-CTX.Denot} g.K.Byte.ByteLink.state g.K.Byte.ByteLink.start tasks ends
+    (called_to s (log_of c.args.calls.now)) (g.D.ByteLink.state c.args.client.now.link)
+    c.args.client.now.ahead back c.args.phase.now
+    → TurnedCounts {C = g.row.SV-CTX.Denot} g.K.Byte.ByteLink.state g.K.Byte.ByteLink.start
+    (c.relay.result.work.moved + tasks) (c.relay.result.work.ended + ends)
+    (called_to s (log_of c.relay.new.calls)) (g.D.ByteLink.state c.relay.new.client.link)
+    c.relay.new.client.ahead back c.relay.new.phase)
     (sym c.is_relaying.ensures ∙ c.if-is_relaying.true) run
-    (λ counted. c.relay.ensures.bounds (called_to s (log_of c.args.calls.now)) tasks ends counted)
-    had)
+    (λ none counted. c.relay.ensures.bounds s tasks ends calls counted) had
 
--- and what it moved is what the exchange moved
+-- and what it moved is what the exchange moved, or hooks were called
 pub returns-then-is_relaying-clause-moves : goal.returns-then-is_relaying-clause-moves
 returns-then-is_relaying-clause-moves g c =
     c.relay.ensures.moves (g.K.Connector.fault_count c.args.connector.now)
@@ -115,27 +148,63 @@ returns-clause-moves g c = λ a is did.
 
 -- and so often were both links asked
 pub returns-then-is_relaying-clause-counts : goal.returns-then-is_relaying-clause-counts
-returns-then-is_relaying-clause-counts g c = λ s p own n run had.
-    relaying_counts g.K.Byte.ByteLink.state g.K.Byte.ByteLink.start s p own
+returns-then-is_relaying-clause-counts g c = λ s p own n calls run had.
+    relaying_run g.K.Byte.ByteLink.state g.K.Byte.ByteLink.start
+    (called_to s (log_of c.args.calls.now)) p
     (world_of g.D.ByteLink.state c.args.client.now
-    (g.K.Connector.fault_count c.args.connector.now))
-    (g.D.ByteLink.state c.relay.new.client.link) n c.relay.result.work.used
-    c.args.phase.now c.relay.new.phase (sym c.is_relaying.ensures ∙ c.if-is_relaying.true) run had
-    c.relay.ensures.counts
+    (g.K.Connector.fault_count c.args.connector.now)) own c.args.phase.now
+    (λ (back : List (Returned g.row.K-Byte.Denot)).
+    PhaseUses {C = g.row.SV-CTX.Denot} g.K.Byte.ByteLink.state g.K.Byte.ByteLink.start n back
+    c.args.phase.now
+    → TurnCounts {C = g.row.SV-CTX.Denot} g.K.Byte.ByteLink.state g.K.Byte.ByteLink.start n
+    (g.D.ByteLink.state c.args.client.now.link) (g.D.ByteLink.state c.relay.new.client.link)
+    c.relay.result.work.used back c.relay.new.phase)
+    (sym c.is_relaying.ensures ∙ c.if-is_relaying.true) run
+    (λ none had.
+    relaying_under g.K.Byte.ByteLink.state g.K.Byte.ByteLink.start
+    (allowed_by (g.SV.ProxyHttp.allows c.args.hooks.now) g.SV.Modules.HttpModule.allows)
+    (g.SV.ProxyHttp.mark_of c.args.hooks.now) s p
+    (world_of g.D.ByteLink.state c.args.client.now
+    (g.K.Connector.fault_count c.args.connector.now)) c.args.calls.now [] c.args.phase.now
+    (λ (back : List (Returned g.row.K-Byte.Denot)).
+    TurnCounts {C = g.row.SV-CTX.Denot} g.K.Byte.ByteLink.state g.K.Byte.ByteLink.start n
+    (g.D.ByteLink.state c.args.client.now.link) (g.D.ByteLink.state c.relay.new.client.link)
+    c.relay.result.work.used [] c.relay.new.phase)
+    (sym c.is_relaying.ensures ∙ c.if-is_relaying.true) calls none
+    (λ o q a is under. c.relay.ensures.counts o q a n is under
+    (subst (λ (k : Phase g.row.K-Byte.Denot g.row.SV-CTX.Denot).
+    PhaseUses g.K.Byte.ByteLink.state g.K.Byte.ByteLink.start n [] k) is had))) had
 
--- it calls no hook
+-- nor is one asked that does not relay
+pub returns-clause-counts : goal.returns-clause-counts
+returns-clause-counts g c = λ s p own n calls run had.
+    c.move_on.ensures.counts (called_to s (log_of c.args.calls.now)) p own n run had
+
+-- its calls go on with those of its filters
 pub returns-then-is_relaying-clause-calls : goal.returns-then-is_relaying-clause-calls
-returns-then-is_relaying-clause-calls g c = λ so_far.
-    relaying_calls _ _ c.args.calls.now c.relay.new.calls c.args.phase.now c.relay.new.phase
-    (sym c.is_relaying.ensures ∙ c.if-is_relaying.true) c.relay.ensures.calls so_far
+returns-then-is_relaying-clause-calls g c = λ s p own most first calls run.
+    relaying_run g.K.Byte.ByteLink.state g.K.Byte.ByteLink.start
+    (called_to s (log_of c.args.calls.now)) p
+    (world_of g.D.ByteLink.state c.args.client.now
+    (g.K.Connector.fault_count c.args.connector.now)) own c.args.phase.now
+    (λ (back : List (Returned g.row.K-Byte.Denot)).
+    CallsSoFar (allowed_by (g.SV.ProxyHttp.allows c.args.hooks.now) g.SV.Modules.HttpModule.allows)
+    (g.SV.ProxyHttp.mark_of c.args.hooks.now) c.relay.new.calls c.relay.new.phase)
+    (sym c.is_relaying.ensures ∙ c.if-is_relaying.true) run
+    (λ none. c.relay.ensures.calls s p (g.K.Connector.fault_count c.args.connector.now) first calls
+    none)
 
--- nor is one counted
-pub returns-then-is_relaying-clause-called : goal.returns-then-is_relaying-clause-called
-returns-then-is_relaying-clause-called g c =
-    none_called c.args.calls.now c.relay.new.calls c.relay.result.work c.relay.ensures.uncalled
-    c.relay.ensures.log
+-- and those of a phase that does not relay with its call
+pub returns-clause-calls : goal.returns-clause-calls
+returns-clause-calls g c = λ s p own most first calls run. c.move_on.ensures.calls calls
 
--- nor is the purger asked
+-- it may make several of them
+pub returns-then-is_relaying-clause-once : goal.returns-then-is_relaying-clause-once
+returns-then-is_relaying-clause-once g c = λ not.
+    absurd (true≢false (sym (relaying_exchanges c.args.phase.now
+    (sym c.is_relaying.ensures ∙ c.if-is_relaying.true)) ∙ not))
+
+-- but none of a purge
 pub returns-then-is_relaying-clause-purger : goal.returns-then-is_relaying-clause-purger
 returns-then-is_relaying-clause-purger g c = λ so_far.
-    asks_still _ _ c.args.calls.now c.relay.new.calls c.relay.new.phase refl c.relay.ensures.log
+    AsksPurger.nothing refl c.relay.ensures.purged

@@ -1,6 +1,7 @@
 -- The steps add up to the whole request.
 use Rattle.std.proofs.Common.{◌≡◌, List, [], ◌∙◌, ◌+◌, ◌≤◌, arith, inl, refl, ap, subst, sym, true≢false}
 use Rattle.relay_tasks.specs.declared.log.LogEntry.{LogEntry}
+use Rattle.relay_tasks.specs.Log.{delays_of}
 use Rattle.relay_links.specs.Count.{last_count}
 use Rattle.relay_phases.specs.Order.{Station}
 use Rattle.relay_request.specs.Calls.{IsLogged, allowed_by, log_of}
@@ -8,6 +9,7 @@ use Rattle.relay_request.specs.Legs.{behind}
 use Rattle.relay_request.specs.Passed.{called_to, start_of}
 use Rattle.relay_request.specs.Request.{Processes}
 use Rattle.relay_request.specs.Turn.{world_of}
+use Rattle.relay_request.proofs.DelayLemmas.{handed_none, handed_on, since_front}
 use Rattle.relay_proxy.specs.declared.proxy.HttpProxy.{HttpProxy}
 use Rattle.relay_proxy.specs.declared.proxy.Outside.{Outside}
 use Rattle.relay_turns.proofs.EndSteps.{done_gives, gives_by}
@@ -44,6 +46,7 @@ loop-turn-init g c =
       omega (arith, c.begin-machine.ensures.uncalled),
       rw c.take_kept-kept.ensures.after at c.begin-machine.ensures.first,
       rw c.begin-machine.ensures.no_log (purged_first (g.P.Purger.state c.args.self.now.purger)),
+      handed_none _ _ _ (ap delays_of c.begin-machine.ensures.no_log),
     )
 
 -- a step that stops ends the request
@@ -55,12 +58,12 @@ returns-then-is_stop-clause-processes g c =
     let s = start_of c.args.self.now.conf.max_retries
     (world_of g.D.ByteLink.state c.args.client.now
     (g.K.Connector.fault_count c.args.self.now.connector)) in
-    let steps = c.step-step.ensures.steps (behind s before.legs) before.passed before.own
-    (behind_most s before.legs
+    let most = behind_most s before.legs
     ∙ ap (λ (k : HttpProxy g.row.SV.Denot g.row.K.Denot g.row.P.Denot). k.conf.max_retries)
-    (sym c.loop-turn.invariant.6))
-    (behind_first s before.legs ∙ sym c.loop-turn.invariant.11) c.loop-turn.invariant.9 before.run
-    in
+    (sym c.loop-turn.invariant.6) in
+    let first = behind_first s before.legs ∙ sym c.loop-turn.invariant.11 in
+    let steps = c.step-step.ensures.steps (behind s before.legs) before.passed before.own most first
+    c.loop-turn.invariant.9 before.run in
     let under = steps_under state start s (log_of c.loop-turn.machine.calls)
     (log_of c.step-step.new.machine.calls) _ _ _ _ _ _ _ _ _ _ _ _
     c.loop-turn.machine.machine c.step-step.new.machine.machine _ _ before c.step-step.ensures.front
@@ -71,7 +74,8 @@ returns-then-is_stop-clause-processes g c =
     let allows = allowed_by (g.SV.ProxyHttp.allows c.loop-turn.self.inner)
     g.SV.Modules.HttpModule.allows in
     let mark_of = g.SV.ProxyHttp.mark_of c.loop-turn.self.inner in
-    let calls = c.step-step.ensures.calls c.loop-turn.invariant.9 in
+    let calls = c.step-step.ensures.calls (behind s before.legs) before.passed before.own most first
+    c.loop-turn.invariant.9 before.run in
     subst (λ (l : List LogEntry). Processes state start (called_to s l)
     (world_of g.D.ByteLink.state c.close.new.client
     (g.K.Connector.fault_count c.close.new.self.connector))
@@ -88,12 +92,12 @@ returns-then-is_stop-clause-processes g c =
     (rw c.close.ensures.log (gives_by allows mark_of c.step-step.new.machine.calls
     c.step-step.new.machine.machine.phase ends.came c.close.result.outcome ends.comes ends.given
     calls)) c.close.ensures.refusals c.close.ensures.offers
-    (stops_at state start _
+    (stops_at state start (log_of c.loop-turn.machine.calls) _
     (world_of g.D.ByteLink.state c.step-step.new.client
     (g.K.Connector.fault_count c.step-step.new.self.connector))
     (world_of g.D.ByteLink.state c.close.new.client
     (g.K.Connector.fault_count c.close.new.self.connector)) _ _ c.step-step.new.machine.calls.at
-    c.step-step.result c.close.result.outcome
+    c.step-step.result c.close.result.outcome _ _
     (sym c.is_stop.ensures ∙ c.if-is_stop.true) c.step-step.ensures.cause c.step-step.ensures.ended
     (rw (c.close.ensures.link, c.close.ensures.ahead, c.close.ensures.faults) (refl
     {a = world_of g.D.ByteLink.state c.step-step.new.client
@@ -118,11 +122,14 @@ loop-turn-preserved g c =
     let s = start_of c.args.self.now.conf.max_retries
     (world_of g.D.ByteLink.state c.args.client.now
     (g.K.Connector.fault_count c.args.self.now.connector)) in
-    let steps = c.step-step.ensures.steps (behind s under.legs) under.passed under.own
-    (behind_most s under.legs
+    let most = behind_most s under.legs
     ∙ ap (λ (k : HttpProxy g.row.SV.Denot g.row.K.Denot g.row.P.Denot). k.conf.max_retries)
-    (sym c.loop-turn.invariant.6))
-    (behind_first s under.legs ∙ sym c.loop-turn.invariant.11) c.loop-turn.invariant.9 under.run in
+    (sym c.loop-turn.invariant.6) in
+    let first = behind_first s under.legs ∙ sym c.loop-turn.invariant.11 in
+    let steps = c.step-step.ensures.steps (behind s under.legs) under.passed under.own most first
+    c.loop-turn.invariant.9 under.run in
+    let calls = c.step-step.ensures.calls (behind s under.legs) under.passed under.own most first
+    c.loop-turn.invariant.9 under.run in
     let goes = sym c.is_stop.ensures ∙ c.if-is_stop.false in
     let few : c.loop-turn._turn + 1 ≤ last_count =
     omega (arith, c.loop-turn-test.true, c.ranges.turns.fits) in (
@@ -145,9 +152,12 @@ loop-turn-preserved g c =
       c.step-step.ensures.worked c.loop-turn.invariant.7,
       c.step-step.ensures.outside ∙ ap
           (λ (o : Outside g.row.H.Denot g.row.W.Denot g.row.Y.Denot).
-          record o { schedule = c.step-step.new.outside.schedule })
+          record o {
+            schedule = c.step-step.new.outside.schedule;
+            delay = c.step-step.new.outside.delay;
+          })
           c.loop-turn.invariant.8,
-      rw c.step-step.ensures.same (c.step-step.ensures.calls c.loop-turn.invariant.9),
+      rw c.step-step.ensures.same calls,
       c.step-step.ensures.logs c.loop-turn.invariant.10,
       c.step-step.ensures.first ∙ c.loop-turn.invariant.11,
       purged_on (g.P.Purger.state c.args.self.now.purger)
@@ -159,6 +169,8 @@ loop-turn-preserved g c =
           (sym (lost_done c.step-step.new.machine.machine.phase c.step-step.new.machine.calls.at
           lost) ∙ c.step-step.ensures.ended ∙ no_end c.step-step.result goes))
           (c.step-step.ensures.purger c.loop-turn.invariant.9),
+      handed_on _ _ _ _ _ _ _ _ _ c.loop-turn.invariant.13 c.step-step.ensures.delays
+          (since_front _ _ c.step-step.ensures.front),
     )
 
 -- where all turns were taken the request ends by its limit
@@ -202,14 +214,22 @@ returns-clause-processes g c =
 -- the log is in order where a step stopped
 pub returns-then-is_stop-clause-logged : goal.returns-then-is_stop-clause-logged
 returns-then-is_stop-clause-logged g c =
+    let under = c.loop-turn.invariant.0 in
+    let s = start_of c.args.self.now.conf.max_retries
+    (world_of g.D.ByteLink.state c.args.client.now
+    (g.K.Connector.fault_count c.args.self.now.connector)) in
+    let calls = c.step-step.ensures.calls (behind s under.legs) under.passed under.own
+    (behind_most s under.legs
+    ∙ ap (λ (k : HttpProxy g.row.SV.Denot g.row.K.Denot g.row.P.Denot). k.conf.max_retries)
+    (sym c.loop-turn.invariant.6))
+    (behind_first s under.legs ∙ sym c.loop-turn.invariant.11) c.loop-turn.invariant.9 under.run in
     subst (λ (app : g.row.SV.Denot). (at : Station)
     × IsLogged (allowed_by (g.SV.ProxyHttp.allows app) g.SV.Modules.HttpModule.allows)
     c.close.result.history.log at)
     (ap (λ (k : HttpProxy g.row.SV.Denot g.row.K.Denot g.row.P.Denot). k.inner)
     c.loop-turn.invariant.6)
     (rw c.close.ensures.log
-    (calls_logged _ _ c.step-step.new.machine.calls c.step-step.new.machine.machine.phase
-    (c.step-step.ensures.calls c.loop-turn.invariant.9)))
+    (calls_logged _ _ c.step-step.new.machine.calls c.step-step.new.machine.machine.phase calls))
 
 -- and where all turns were taken
 pub returns-clause-logged : goal.returns-clause-logged
@@ -226,8 +246,16 @@ returns-clause-logged g c =
 -- a value is kept where it was asked for last, where a step stopped
 pub returns-then-is_stop-clause-kept : goal.returns-then-is_stop-clause-kept
 returns-then-is_stop-clause-kept g c = λ some.
-    c.close.ensures.keeps
-    (rw c.step-step.ensures.same (c.step-step.ensures.calls c.loop-turn.invariant.9))
+    let under = c.loop-turn.invariant.0 in
+    let s = start_of c.args.self.now.conf.max_retries
+    (world_of g.D.ByteLink.state c.args.client.now
+    (g.K.Connector.fault_count c.args.self.now.connector)) in
+    let calls = c.step-step.ensures.calls (behind s under.legs) under.passed under.own
+    (behind_most s under.legs
+    ∙ ap (λ (k : HttpProxy g.row.SV.Denot g.row.K.Denot g.row.P.Denot). k.conf.max_retries)
+    (sym c.loop-turn.invariant.6))
+    (behind_first s under.legs ∙ sym c.loop-turn.invariant.11) c.loop-turn.invariant.9 under.run in
+    c.close.ensures.keeps (rw c.step-step.ensures.same calls)
     (c.step-step.ensures.kept ∙ c.loop-turn.invariant.4) some
 
 -- and where all turns were taken
@@ -250,3 +278,14 @@ returns-then-is_stop-clause-purger g c =
 pub returns-clause-purger : goal.returns-clause-purger
 returns-clause-purger g c =
     rw (c.close-2.ensures.same, c.close-2.ensures.log) (inl c.loop-turn.invariant.12)
+
+-- each delay was handed over, where a step stopped
+pub returns-then-is_stop-clause-delays : goal.returns-then-is_stop-clause-delays
+returns-then-is_stop-clause-delays g c =
+    rw c.close.ensures.log
+    (handed_on _ _ _ _ _ _ _ _ _ c.loop-turn.invariant.13 c.step-step.ensures.delays
+    (since_front _ _ c.step-step.ensures.front))
+
+-- and where all turns were taken
+pub returns-clause-delays : goal.returns-clause-delays
+returns-clause-delays g c = rw c.close-2.ensures.log c.loop-turn.invariant.13

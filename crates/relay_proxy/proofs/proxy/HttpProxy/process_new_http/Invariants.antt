@@ -1,8 +1,10 @@
 -- What holds between two steps of the call.
 use Rattle.std.proofs.Common.{◌≡◌, ◌+◌, ◌≤◌, [], length, None, false}
+use Rattle.relay_tasks.specs.Log.{delays_of}
 use Rattle.relay_links.specs.Told.{more}
 use Rattle.relay_purging.specs.Told.{purges_in}
 use Rattle.relay_request.specs.Calls.{CallsSoFar, allowed_by, log_of}
+use Rattle.relay_request.specs.Delays.{HandsOver}
 use Rattle.relay_request.specs.Passed.{start_of}
 use Rattle.relay_request.specs.Request.{is_done}
 use Rattle.relay_request.specs.Stock.{items_held, all_items}
@@ -36,10 +38,16 @@ invariant-loop-turn g l =
     × (is_done l.machine.machine.phase l.machine.calls.at ≡ false)
     × (l.self ≡ record l.fn.self { connector = l.self.connector; purger = l.self.purger })
     × (l.machine.machine.turns ≤ total_work l.machine.machine.work)
-    × (l.outside ≡ record l.fn.outside { schedule = l.outside.schedule })
+    × (l.outside ≡ record l.fn.outside {
+      schedule = l.outside.schedule;
+      delay = l.outside.delay;
+    })
     × CallsSoFar (allowed_by (g.SV.ProxyHttp.allows l.self.inner) g.SV.Modules.HttpModule.allows)
     (g.SV.ProxyHttp.mark_of l.self.inner) l.machine.calls l.machine.machine.phase
     × (l.machine.machine.work.called ≤ length (log_of l.machine.calls))
     × (l.machine.machine.first ≡ (g.D.ByteLink.state l.fn.client.link).faults)
     × ((g.P.Purger.state l.self.purger).told
     ≡ more (g.P.Purger.state l.fn.self.purger).told (purges_in (log_of l.machine.calls)))
+    × HandsOver (g.Y.Delay.calls l.fn.outside.delay) (g.Y.Delay.total l.fn.outside.delay)
+    (g.Y.Delay.calls l.outside.delay) (g.Y.Delay.total l.outside.delay)
+    (delays_of (log_of l.machine.calls))

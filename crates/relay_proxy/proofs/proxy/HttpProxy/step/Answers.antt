@@ -7,21 +7,22 @@ use Rattle.relay_request.specs.Turn.{held_state, world_of}
 use Rattle.relay_request.specs.declared.machine.Phase.{Phase}
 use Rattle.relay_request.specs.declared.work.Work.{Work}
 use Rattle.relay_request.specs.declared.work.TheConstants.Work.{NONE}
+use Rattle.relay_request.proofs.DelayLemmas.{handed_none, since_same}
 use Rattle.relay_turns.proofs.EndSteps.{calls_last, last_elsewhere, last_on, rests_on, rests_uses}
 use Rattle.relay_turns.proofs.PurgeSteps.{asks_nothing, asks_still}
 use Rattle.relay_proxy.proofs.proxy.HttpProxy.step.Goals as goal
 
 -- the calls so far go on with that of such a hook
 pub returns-in-Some-clause-calls : goal.returns-in-Some-clause-calls
-returns-in-Some-clause-calls g c = λ so_far.
+returns-in-Some-clause-calls g c = λ s p own most first so_far run.
     subst (λ (k : Phase g.row.K-Byte.Denot g.row.SV-CTX.Denot). CallsSoFar
     (allowed_by (g.SV.ProxyHttp.allows c.args.self.now.inner) g.SV.Modules.HttpModule.allows)
-    (g.SV.ProxyHttp.mark_of c.args.self.now.inner) c.call_last.new.machine.calls k)
-    (sym c.call_last.ensures.phase)
+    (g.SV.ProxyHttp.mark_of c.args.self.now.inner) c.call_last-step.new.machine.calls k)
+    (sym c.call_last-step.ensures.phase)
     (calls_last (allowed_by (g.SV.ProxyHttp.allows c.args.self.now.inner)
     g.SV.Modules.HttpModule.allows) (g.SV.ProxyHttp.mark_of c.args.self.now.inner)
-    c.args.machine.now.calls c.call_last.new.machine.calls c.args.machine.now.machine.phase
-    c.in-Some.goes_back (sym c.goes_on_last.ensures ∙ c.in-Some.is) c.call_last.ensures.calls
+    c.args.machine.now.calls c.call_last-step.new.machine.calls c.args.machine.now.machine.phase
+    c.in-Some.goes_back (sym c.goes_on_last.ensures ∙ c.in-Some.is) c.call_last-step.ensures.calls
     so_far)
 
 -- and so does the run so far
@@ -29,11 +30,11 @@ pub returns-in-Some-clause-steps : goal.returns-in-Some-clause-steps
 returns-in-Some-clause-steps g c = λ s p own most first so_far run.
     let w = world_of g.D.ByteLink.state c.args.client.now
     (g.K.Connector.fault_count c.args.self.now.connector) in
-    let counts = c.call_last.ensures.counts in
+    let counts = c.call_last-step.ensures.counts in
     subst (λ (k : Phase g.row.K-Byte.Denot g.row.SV-CTX.Denot).
     StepsOn g.K.Byte.ByteLink.state g.K.Byte.ByteLink.start
     (called_to s (log_of c.args.machine.now.calls))
-    (called_to s (log_of c.call_last.new.machine.calls)) p w own
+    (called_to s (log_of c.call_last-step.new.machine.calls)) p w own
     (g.K.Connector.returned c.args.self.now.connector)
     (g.K.Connector.returned c.args.self.now.connector)
     (g.K.Connector.refusals c.args.self.now.connector)
@@ -41,17 +42,17 @@ returns-in-Some-clause-steps g c = λ s p own most first so_far run.
     (g.K.Connector.stock c.args.self.now.connector)
     (g.K.Connector.stock c.args.self.now.connector) (g.D.ByteLink.state c.args.client.now.link)
     c.args.client.now.ahead c.args.machine.now.machine.work
-    c.call_last.new.machine.machine.work c.args.machine.now.machine.phase k)
-    (sym c.call_last.ensures.phase)
+    c.call_last-step.new.machine.machine.work c.args.machine.now.machine.phase k)
+    (sym c.call_last-step.ensures.phase)
     (last_on (allowed_by (g.SV.ProxyHttp.allows c.args.self.now.inner)
     g.SV.Modules.HttpModule.allows) (g.SV.ProxyHttp.mark_of c.args.self.now.inner)
-    c.args.machine.now.calls c.call_last.new.machine.calls c.args.machine.now.machine.phase
-    c.in-Some.goes_back (sym c.goes_on_last.ensures ∙ c.in-Some.is) c.call_last.ensures.calls so_far
+    c.args.machine.now.calls c.call_last-step.new.machine.calls c.args.machine.now.machine.phase
+    c.in-Some.goes_back (sym c.goes_on_last.ensures ∙ c.in-Some.is) c.call_last-step.ensures.calls so_far
     g.K.Byte.ByteLink.state g.K.Byte.ByteLink.start s p w own
     (g.K.Connector.returned c.args.self.now.connector)
     (g.K.Connector.refusals c.args.self.now.connector)
     (g.K.Connector.stock c.args.self.now.connector) c.args.machine.now.machine.work
-    c.call_last.new.machine.machine.work (record {
+    c.call_last-step.new.machine.machine.work (record {
       work = counts.work;
       adds = counts.adds;
       unused = counts.unused;
@@ -79,7 +80,7 @@ returns-then-is_over-clause-steps g c = λ s p own most first so_far run.
 
 -- and no link is used
 pub returns-then-is_over-clause-uses : goal.returns-then-is_over-clause-uses
-returns-then-is_over-clause-uses g c = λ s p own run. (
+returns-then-is_over-clause-uses g c = λ s p own calls run. (
   0,
   ap (λ (k : Work). k.used) c.rest.ensures.adds,
   rw c.rest.ensures.same (rests_uses g.K.Byte.ByteLink.state 0
@@ -93,15 +94,21 @@ pub returns-in-Some-clause-purger : goal.returns-in-Some-clause-purger
 returns-in-Some-clause-purger g c = λ so_far.
     let last = last_elsewhere (allowed_by (g.SV.ProxyHttp.allows c.args.self.now.inner)
     g.SV.Modules.HttpModule.allows) (g.SV.ProxyHttp.mark_of c.args.self.now.inner)
-    c.args.machine.now.calls c.call_last.new.machine.calls c.args.machine.now.machine.phase
-    c.in-Some.goes_back (sym c.goes_on_last.ensures ∙ c.in-Some.is) c.call_last.ensures.calls
+    c.args.machine.now.calls c.call_last-step.new.machine.calls c.args.machine.now.machine.phase
+    c.in-Some.goes_back (sym c.goes_on_last.ensures ∙ c.in-Some.is) c.call_last-step.ensures.calls
     so_far in
-    asks_nothing _ _ c.args.machine.now.calls c.call_last.new.machine.calls
-    c.call_last.new.machine.machine.phase last.0.here last.1.0 refl last.0.order last.0.elsewhere
-    last.1.1.order c.call_last.ensures.counts.calls.grows c.call_last.ensures.counts.calls.once
+    asks_nothing _ _ c.args.machine.now.calls c.call_last-step.new.machine.calls
+    c.call_last-step.new.machine.machine.phase last.0.here last.1.0 refl last.0.order last.0.elsewhere
+    last.1.1.order c.call_last-step.ensures.counts.calls.grows c.call_last-step.ensures.counts.calls.once
 
 -- and where none is called nothing is asked
 pub returns-then-is_over-clause-purger : goal.returns-then-is_over-clause-purger
 returns-then-is_over-clause-purger g c = λ so_far.
     asks_still _ _ c.args.machine.now.calls c.rest.new.self.calls c.rest.new.self.machine.phase refl
     (rw c.rest.ensures.same refl)
+
+-- no call of this step asked for a delay, where none was made
+pub returns-then-is_over-clause-delays : goal.returns-then-is_over-clause-delays
+returns-then-is_over-clause-delays g c =
+    rw c.rest.ensures.same
+    (handed_none _ _ _ (since_same (log_of c.args.machine.now.calls)))

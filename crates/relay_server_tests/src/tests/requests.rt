@@ -1,0 +1,123 @@
+//! Whole requests behind an application that counts, each in one call.
+use super::counting::Counting;
+use super::support::link;
+use bytes::Bytes;
+use relay_h1::Connection;
+use relay_links::{
+    CountDelay, MemoryPurger, PeerScript, RoundRobin, ScriptConnector, ScriptLink, ShutdownAt,
+};
+use relay_proxy::{HttpProxy, Outside, ServerConf};
+use relay_tasks::Purged;
+use std::alloc::Global;
+use std::test::Fail;
+
+/// A request whose body comes in three pieces, and an answer whose body does.
+const ASKED: [&str; 4] = [
+    "POST /c HTTP/1.1\r\nHost: h.example\r\nContent-Length: 3\r\n\r\n",
+    "a",
+    "a",
+    "a",
+];
+
+const ANSWERED: [&str; 4] = [
+    "HTTP/1.1 200 OK\r\nContent-Length: 3\r\n\r\n",
+    "a",
+    "a",
+    "a",
+];
+
+/// The most turns that a request may take.
+pub(super) const TURNS: u64 = 1_000;
+
+pub(super) type Proxy = HttpProxy<Counting, ScriptConnector, MemoryPurger>;
+
+pub(super) type Client = Connection<ScriptLink, u64>;
+
+/// What came of a request: whether its pieces were numbered, what its connection keeps, and how
+/// many delays were handed over, for how long in all.
+#[derive(Clone, Copy, Debug, PartialEq, Eq)]
+struct Came {
+    is_numbered: bool,
+    kept: Option<u64>,
+    delays: u64,
+    millis: u64,
+}
+
+/// A proxy of an application that asks for that delay, whose peer answers one request.
+pub(super) fn proxy(alloc: Global, delay: Option<u64>) -> Result<Proxy, Fail> {
+    let mut entries = Vec::new(alloc);
+    entries.push(PeerScript {
+        name: Bytes::from_static(b"a"),
+        link: link(alloc, &ANSWERED)?,
+        connect: None,
+    })?;
+    let connector = ScriptConnector::new(alloc, entries)
+        .ok()
+        .ok_or("no memory")?;
+    let purger = MemoryPurger::new(alloc, Purged::NotFound);
+    let conf = ServerConf { max_retries: 1 };
+    Ok(HttpProxy::new(alloc, Counting::new(delay), conf, connector, purger))
+}
+
+/// The client that asks.
+pub(super) fn client(alloc: Global) -> Result<Client, Fail> {
+    Ok(Connection::new(alloc, link(alloc, &ASKED)?))
+}
+
+/// What a request asks beside its links.
+pub(super) fn outside() -> Outside<RoundRobin, ShutdownAt, CountDelay> {
+    Outside {
+        schedule: RoundRobin::new(),
+        shutdown: ShutdownAt::new(None),
+        delay: CountDelay::new(),
+    }
+}
+
+/// Whether what the client was written ends in the digits of three pieces behind a head.
+pub(super) fn is_numbered(client: &Client) -> bool {
+    client.link().taken().ends_with(b"\r\n\r\n123")
+}
+
+/// What comes of the request where the application asks for that delay.
+fn relayed(alloc: Global, delay: Option<u64>) -> Result<Came, Fail> {
+    let mut proxy = proxy(alloc, delay)?;
+    let mut client = client(alloc)?;
+    let mut outside = outside();
+    let _ = proxy.process_new_http(&mut client, &mut outside, TURNS);
+    Ok(Came {
+        is_numbered: is_numbered(&client),
+        kept: client.kept().copied(),
+        delays: outside.delay.calls(),
+        millis: outside.delay.total(),
+    })
+}
+
+#[test]
+fn counts_the_calls_that_get_the_context(rt: HostRuntime) -> Result<(), Fail> {
+    let came = relayed(rt.alloc(), None)?;
+    assert_eq!(rt;
+        came,
+        Came {
+            is_numbered: true,
+            kept: Some(18),
+            delays: 0,
+            millis: 0
+        }
+    );
+    Ok(())
+}
+
+#[test]
+fn delays_each_piece_once(rt: HostRuntime) -> Result<(), Fail> {
+    let came = relayed(rt.alloc(), Some(5))?;
+    assert_eq!(rt;
+        came,
+        Came {
+            is_numbered: true,
+            kept: Some(18),
+            delays: 3,
+            millis: 15
+        }
+    );
+    Ok(())
+}
