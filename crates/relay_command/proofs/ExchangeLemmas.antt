@@ -328,6 +328,7 @@ is_request script from to written links processed run asked logged client clear 
           ∙ sents_are s run.legs run.passed (world_at to) run.own (names_of from.peers)
           processed.history.attempts run.came run.are_legs run.ended.ends;
       log = refl;
+      unlisted = refl;
     }
 
 -- what a run made of the next request, by the values that the code has

@@ -1,7 +1,6 @@
 pub mod AskedLemmas
 pub mod ExchangeLemmas
 pub mod ListLemmas
-pub mod LogLemmas
 pub mod RefusedLemmas
 pub mod ReportLemmas
 pub mod TransferLemmas

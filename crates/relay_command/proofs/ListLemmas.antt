@@ -1,5 +1,5 @@
--- The elements of a list from a place on.
-use Rattle.std.proofs.Common.{◌≡◌, ℕ, suc, ◌+◌, ◌<◌, ◌≤◌, ◌⊎◌, List, ◌∷◌, length, get_or, drop, Some, None, inl, inr, sym, ap, ◌∙◌, add-one, drop-cons, true≢false}
+-- The elements of a list from a place on, and texts one behind the other.
+use Rattle.std.proofs.Common.{◌≡◌, ℕ, suc, ◌+◌, ◌<◌, ◌≤◌, ◌⊎◌, List, ◌++◌, ◌∷◌, length, get_or, drop, Some, None, inl, inr, sym, ap, ◌∙◌, add-one, drop-cons, append_assoc, true≢false}
 use Rattle.std.specs.Prelude.{is_some}
 use Rattle.std.specs.List.{slice_get}
 use Rattle.std.proofs.lemmas.Option.{slice_get_within, slice_get_cases, get_or_from_slice_get}
@@ -19,3 +19,9 @@ none_at {A = A} xs n none = by (slice_get_cases xs n).1
         ⊎ ((length xs ≤ n) × (slice_get xs n ≡ None)) → length xs ≤ n
     by (inl some) = absurd (true≢false (ap is_some (sym some.2 ∙ none)))
     by (inr past) = past.0
+
+-- one more text is written behind some
+pub written_on : (out texts text before after : List ℕ) → before ≡ out ++ texts
+    → after ≡ before ++ text → after ≡ out ++ (texts ++ text)
+written_on out texts text before after first then =
+    then ∙ ap (λ (l : List ℕ). l ++ text) first ∙ append_assoc out texts text

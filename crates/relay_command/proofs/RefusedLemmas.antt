@@ -361,6 +361,7 @@ request_free script branches from to request one = record {
   passed = one.passed;
   attempts = one.attempts;
   log = one.log;
+  unlisted = one.unlisted;
 }
 
 -- what follows a request stands where each run that follows does

@@ -1,7 +1,8 @@
 -- The requests of a client over scripted links, one behind the other, and what is reported of them.
-use Rattle.std.specs.Prelude.{◌≡◌, ◌≢◌, ℕ, zero, suc, ◌≤◌, List, [], ◌∷◌, ◌++◌, length, drop, map, Bool, true, false, Option, Some, None, Ok, Err, unwrap_or, codes}
+use Rattle.std.specs.Prelude.{◌≡◌, ◌≢◌, ℕ, zero, suc, ◌-◌, ◌≤◌, List, [], ◌∷◌, ◌++◌, length, drop, map, Bool, true, false, Option, Some, None, Ok, Err, unwrap_or, codes}
 use Rattle.relay_tasks.specs.declared.error.RetryType.{RetryType}
 use Rattle.relay_tasks.specs.declared.fault.Fault.{Fault}
+use Rattle.relay_tasks.specs.Log.{lines_of, most_lines}
 use Rattle.relay_tasks.specs.declared.log.LogEntry.{LogEntry}
 use Rattle.relay_tasks.specs.declared.peer.Peer.{Peer}
 use Rattle.relay_links.specs.Connector.{Offer, connect_fault}
@@ -29,7 +30,6 @@ use Rattle.relay_request.specs.Request.{Processes}
 use Rattle.relay_request.specs.declared.outcome.Processed.{Processed}
 use Rattle.relay_request.specs.declared.outcome.Outcome.TheVariants.{OutOfMemory}
 use Rattle.relay_request.specs.declared.record.AttemptRecord.{AttemptRecord}
-use Rattle.relay_command.specs.Log.{log_lines}
 use Rattle.relay_command.specs.Report.{RequestSpec, outcome_reuse}
 use Rattle.relay_json.specs.Script.{PeerSpec, ScriptSpec}
 use Rattle.relay_command.specs.declared.exchange.Run.{Run}
@@ -176,7 +176,8 @@ reported names processed written links = record {
   outcome = processed.outcome;
   written = written;
   attempts = attempt_reports names (sents_of links) processed.history.attempts;
-  log = log_lines processed.history.log;
+  log = lines_of processed.history.log;
+  unlisted = length processed.history.log - most_lines;
 }
 
 -- ---- a run
@@ -248,7 +249,8 @@ pub record IsRequest (script : ScriptSpec) (from to : Place) (request : RequestS
   pub passed : run.legs ≡ [] → request.written ≡ run.passed.written
   pub attempts : request.attempts ≡ attempt_reports (names_of from.peers)
       (sents_in run.legs run.passed.sent) processed.history.attempts
-  pub log : request.log ≡ log_lines processed.history.log
+  pub log : request.log ≡ lines_of processed.history.log
+  pub unlisted : request.unlisted ≡ length processed.history.log - most_lines
 
 -- what follows a request: the next ones where the client goes back, and else none
 abbrev pub Follows : Bool → Type 0 → List RequestSpec → Type 0

@@ -1,5 +1,4 @@
 pub mod Exchange
-pub mod Log
 pub mod Report
 pub mod Run
 pub mod Transfer

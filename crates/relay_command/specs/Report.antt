@@ -5,22 +5,23 @@ use Rattle.relay_tasks.specs.declared.error.ErrorSource.{ErrorSource}
 use Rattle.relay_tasks.specs.declared.error.ErrorSource.TheVariants as source
 use Rattle.relay_tasks.specs.declared.error.RetryType.{RetryType}
 use Rattle.relay_tasks.specs.declared.error.RetryType.TheVariants as retry
+use Rattle.relay_tasks.specs.declared.log_line.HookAnswer.{HookAnswer}
+use Rattle.relay_tasks.specs.declared.log_line.HookAnswer.TheVariants.{Failed, Said, Done}
+use Rattle.relay_tasks.specs.declared.log_line.LogLine.{LogLine}
 use Rattle.relay_request.specs.declared.outcome.Outcome.{Outcome}
 use Rattle.relay_request.specs.declared.outcome.Outcome.TheVariants as outcome
 use Rattle.relay_json.specs.Names.{hook_name, type_text}
-use Rattle.relay_command.specs.declared.log.HookAnswer.{HookAnswer}
-use Rattle.relay_command.specs.declared.log.HookAnswer.TheVariants.{Failed, Said, Done}
-use Rattle.relay_command.specs.declared.log.LogLine.{LogLine}
 use Rattle.relay_command.specs.declared.report.AttemptReport.{AttemptReport}
 use Rattle.relay_command.specs.declared.report.RequestReport.{RequestReport}
 
 -- a request without where it lies in memory: its outcome, the bytes that the client's link took,
--- its attempts, and the calls of its hooks
+-- its attempts, the first calls of its hooks, and how many followed these
 pub record RequestSpec : Type 0 where
   pub outcome : Outcome
   pub written : List ℕ
   pub attempts : List AttemptReport
   pub log : List LogLine
+  pub unlisted : ℕ
 
 abbrev pub request_spec : RequestReport → RequestSpec
 request_spec r = record {
@@ -28,6 +29,7 @@ request_spec r = record {
   written = r.written;
   attempts = r.attempts.items;
   log = r.log.items;
+  unlisted = r.unlisted;
 }
 
 abbrev pub request_specs : List RequestReport → List RequestSpec
@@ -123,6 +125,11 @@ line_text line =
 abbrev pub log_text : List LogLine → List ℕ
 log_text log = flat_map line_text log
 
+-- how many calls followed those, where there were any
+abbrev pub unlisted_text : ℕ → List ℕ
+unlisted_text calls =
+    if calls == 0 then [] else codes "unlisted " ++ decimal calls ++ codes "\n"
+
 -- how request k ended
 abbrev pub outcome_text : ℕ → Outcome → List ℕ
 outcome_text k ended =
@@ -138,6 +145,7 @@ client_text r =
 abbrev pub request_text : ℕ → RequestSpec → List ℕ
 request_text k r =
     outcome_text k r.outcome ++ client_text r ++ attempts_text 1 r.attempts ++ log_text r.log
+    ++ unlisted_text r.unlisted
 
 -- requests, counted from k
 abbrev pub requests_text : ℕ → List RequestSpec → List ℕ

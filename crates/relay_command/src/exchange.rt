@@ -6,7 +6,6 @@ ghost use Rattle.relay_command.specs.Exchange.{attempt_report, attempt_reports, 
 ghost use Rattle.relay_command.specs.Report.{request_spec, request_specs};
 ghost use Rattle.relay_json.specs.Script.{PeerSpec, ScriptSpec, peer_spec, peer_specs, script_spec};
 
-use crate::log::log_lines;
 use crate::report::{AttemptReport, RequestReport, outcome_reuse};
 use bytes::Bytes;
 use relay_h1::Connection;
@@ -18,7 +17,7 @@ use relay_links::{
 use relay_proxy::{AttemptList, AttemptRecord, HttpProxy, Outcome, Outside, Processed, ServerConf};
 use relay_script::CheckedRules;
 use relay_scripted::ScriptProxy;
-use relay_tasks::Peer;
+use relay_tasks::{MOST_LINES, Peer};
 use std::alloc::{AllocError, Global};
 use std::collections::VecDeque;
 
@@ -222,13 +221,16 @@ fn request_report(
         × (names.new.items ≡ drop (length processed.now.history.attempts) names.old.items)) }
 {
     let written = Bytes::copy_from_slice(alloc, written)?;
-    let log = log_lines(alloc, &processed.history.log)?;
+    let calls = &processed.history.log;
+    let log = Vec::from_slice(alloc, calls.lines())?;
+    let unlisted = calls.len().saturating_sub(MOST_LINES);
     let attempts = attempt_reports(alloc, names, links, &processed.history.attempts)?;
     Ok(RequestReport {
         outcome: processed.outcome,
         written,
         attempts,
         log,
+        unlisted,
     })
 }
 

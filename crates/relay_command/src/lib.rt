@@ -4,7 +4,6 @@
 
 mod announcer;
 mod exchange;
-mod log;
 mod report;
 mod run;
 mod serving;
@@ -12,7 +11,6 @@ mod transfer;
 mod words;
 
 pub use exchange::run_exchanges;
-pub use log::{HookAnswer, LogLine, log_lines};
 pub use report::{AttemptReport, RequestReport, report_text, shown_alone};
 pub use run::{Status, run_command, run_script};
 pub use serving::serve;

@@ -2,14 +2,13 @@
 //! writes its text at the end of a buffer.
 ghost use Rattle.std.specs.Prelude.{◌≡◌, ℕ, List, ◌+◌, ◌<◌, ◌^◌, ◌++◌, length, decimal, map, OnOk, IfOk};
 ghost use Rattle.relay_json.specs.Names.{type_text};
-ghost use Rattle.relay_command.specs.Report.{request_spec, hex_digit, shown_byte, shown, yes_no, source_name, retry_name, error_text, outcome_name, outcome_error, outcome_reuse, attempt_text, attempts_text, outcome_text, client_text, answer_text, line_text, log_text, request_text, request_specs, report_of, IsShownAlone};
+ghost use Rattle.relay_command.specs.Report.{request_spec, hex_digit, shown_byte, shown, yes_no, source_name, retry_name, error_text, outcome_name, outcome_error, outcome_reuse, attempt_text, attempts_text, outcome_text, client_text, answer_text, line_text, log_text, unlisted_text, request_text, request_specs, report_of, IsShownAlone};
 
-use crate::log::{HookAnswer, LogLine};
 use bytes::Bytes;
 use itoa::Buffer;
 use relay_json::{hook_name, type_name, type_number};
 use relay_proxy::Outcome;
-use relay_tasks::{Error, ErrorSource, ErrorType, RetryType};
+use relay_tasks::{Error, ErrorSource, ErrorType, HookAnswer, LogLine, RetryType};
 use std::alloc::{AllocError, Global};
 
 /// What an attempt came to: the name of its peer, whether its link had been used before, whether
@@ -23,14 +22,15 @@ pub struct AttemptReport {
     pub sent: Bytes,
 }
 
-/// What a request came to: its outcome, the bytes that the client's link took, its attempts, and
-/// the calls of its hooks.
+/// What a request came to: its outcome, the bytes that the client's link took, its attempts, the
+/// first calls of its hooks, and how many followed these.
 #[derive(Drop)]
 pub struct RequestReport {
     pub outcome: Outcome,
     pub written: Bytes,
     pub attempts: Vec<AttemptReport>,
     pub log: Vec<LogLine>,
+    pub unlisted: usize,
 }
 
 /// The report of requests, counted from 1.
@@ -53,6 +53,7 @@ fn push_request(out: &mut Vec<u8>, k: u64, request: &RequestReport) -> Result<()
     push_client(out, request)?;
     push_attempts(out, &request.attempts)?;
     push_log(out, &request.log)?;
+    push_unlisted(out, request.unlisted as u64)?;
     Ok(())
 }
 
@@ -135,6 +136,18 @@ fn push_log(out: &mut Vec<u8>, log: &[LogLine]) -> Result<(), AllocError>
 {
     for line in log {
         push_line(out, *line)?;
+    }
+    Ok(())
+}
+
+/// Writes how many calls of hooks are not told, where there are any.
+fn push_unlisted(out: &mut Vec<u8>, calls: u64) -> Result<(), AllocError>
+    ensures { OnOk result (out.new.items ≡ out.old.items ++ unlisted_text calls) }
+{
+    if calls != 0 {
+        push(out, b"unlisted ")?;
+        push_number(out, calls)?;
+        push(out, b"\n")?;
     }
     Ok(())
 }

@@ -152,9 +152,8 @@ rule_of value =
 abbrev pub listed_of : Data → Option (List Rule)
 listed_of value = list_of rule_of value
 
--- the hooks that are called: those in front of the attempts and of a purge, those of an attempt up to
--- the head that is sent, those that look at the error of an attempt, and those of the end. The others
--- are taken once they are
+-- the hooks that are called: those in front of the attempts and of a purge, those of an attempt with
+-- its filters, those that look at its error, and those of the end. The others are taken once they are
 abbrev pub is_called : Hook → Bool
 is_called hook.EarlyRequestFilter = true
 is_called hook.AllowSpawningSubrequest = true
@@ -168,6 +167,17 @@ is_called hook.UpstreamPeer = true
 is_called hook.FailToConnect = true
 is_called hook.ConnectedToUpstream = true
 is_called hook.UpstreamRequestFilter = true
+is_called hook.ModuleRequestBody = true
+is_called hook.RequestBodyFilter = true
+is_called hook.UpstreamResponseFilter = true
+is_called hook.ResponseFilter = true
+is_called hook.ModuleResponseHeader = true
+is_called hook.UpstreamResponseBodyFilter = true
+is_called hook.ResponseBodyFilter = true
+is_called hook.ModuleResponseBody = true
+is_called hook.UpstreamResponseTrailerFilter = true
+is_called hook.ModuleResponseTrailer = true
+is_called hook.ModuleResponseDone = true
 is_called hook.ErrorWhileProxy = true
 is_called hook.SuppressProxyWarnLog = true
 is_called hook.SuppressErrorLog = true

@@ -70,6 +70,17 @@ fn is_called(hook: Hook) -> bool
             | Hook::FailToConnect
             | Hook::ConnectedToUpstream
             | Hook::UpstreamRequestFilter
+            | Hook::ModuleRequestBody
+            | Hook::RequestBodyFilter
+            | Hook::UpstreamResponseFilter
+            | Hook::ResponseFilter
+            | Hook::ModuleResponseHeader
+            | Hook::UpstreamResponseBodyFilter
+            | Hook::ResponseBodyFilter
+            | Hook::ModuleResponseBody
+            | Hook::UpstreamResponseTrailerFilter
+            | Hook::ModuleResponseTrailer
+            | Hook::ModuleResponseDone
             | Hook::ErrorWhileProxy
             | Hook::SuppressProxyWarnLog
             | Hook::SuppressErrorLog

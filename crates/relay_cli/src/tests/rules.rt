@@ -15,7 +15,7 @@ fn refusal(alloc: Global, hooks: &str) -> Result<Option<ScriptError>, AllocError
 
 /// Rules that are taken; the greatest value that is kept, and one more; a rule of each action that stands on such hooks alone, as it is written; and
 /// these with a key that is not theirs, without one, and on a hook that is not theirs.
-const HOOKS: [(&str, Option<ScriptError>); 13] = [
+const HOOKS: [(&str, Option<ScriptError>); 15] = [
     (
         r#"[{"hook":"proxy_upstream_filter","do":"say","on":false}]"#,
         None,
@@ -34,18 +34,23 @@ const HOOKS: [(&str, Option<ScriptError>); 13] = [
     ),
     (
         r#"[{"hook":"response_filter","do":"status","code":418}]"#,
-        Some(ScriptError::HookNotCalled),
+        None,
     ),
     (
         r#"[{"hook":"response_body_filter","do":"text","value":"h"}]"#,
-        Some(ScriptError::HookNotCalled),
+        None,
     ),
-    (
-        r#"[{"hook":"request_body_filter","do":"drop"}]"#,
-        Some(ScriptError::HookNotCalled),
-    ),
+    (r#"[{"hook":"request_body_filter","do":"drop"}]"#, None),
     (
         r#"[{"hook":"custom_forwarding","do":"inject","up":["a",""],"down":[]}]"#,
+        Some(ScriptError::HookNotCalled),
+    ),
+    (
+        r#"[{"hook":"module_request_body","do":"error","type":"ReadError"}]"#,
+        None,
+    ),
+    (
+        r#"[{"hook":"response_trailer_filter","do":"error","type":"ReadError"}]"#,
         Some(ScriptError::HookNotCalled),
     ),
     (
