@@ -1,13 +1,21 @@
 //! What one hook finds out, another finds in the context: those who ask for the new version, by a
 //! field of their request, have a peer of their own.
 
+use crate::memory::{REQUEST, RESPONSE, Scene};
 use bytes::Bytes;
 use relay_hooks::{Filters, NoModules, Session};
 use relay_tasks::{Peer, Result};
 use std::alloc::Global;
 
-/// A request that asks for the new version.
-pub(crate) const ASKS_FOR_NEW: &str = "GET /b HTTP/1.1\r\nHost: h.example\r\nVersion: new\r\n\r\n";
+/// A request that asks for no version, and one that asks for the new one.
+pub(crate) const SCENE: Scene = Scene {
+    requests: &[
+        REQUEST,
+        "GET /b HTTP/1.1\r\nHost: h.example\r\nVersion: new\r\n\r\n",
+    ],
+    response: &[RESPONSE],
+    refused: 0,
+};
 
 /// What is kept for one request: whether it asks for the new version.
 #[derive(Drop)]

@@ -1,10 +1,18 @@
 //! A peer that cannot be reached: the request goes to another one in its next attempt. Nothing of
 //! it was sent before, so that is safe for every method (RFC 9110, section 9.2.2).
 
+use crate::memory::{REQUEST, RESPONSE, Scene};
 use bytes::Bytes;
 use relay_hooks::{Filters, NoModules, Session};
 use relay_tasks::{Peer, Result};
 use std::alloc::Global;
+
+/// A request whose first link is refused.
+pub(crate) const SCENE: Scene = Scene {
+    requests: &[REQUEST],
+    response: &[RESPONSE],
+    refused: 1,
+};
 
 /// What is kept for one request: whether its first peer was named.
 #[derive(Drop)]

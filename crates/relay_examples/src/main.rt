@@ -1,18 +1,23 @@
-//! Uses of the library, by the words: `memory`, `context`, `gateway` and `failover` relay requests
-//! over links in memory by an application each, and `serve PORT PEER` serves a port for a peer.
+//! Uses of the library, by the words: `memory`, `context`, `gateway`, `failover`, `modify_response`
+//! and `use_module` relay requests over links in memory by an application each, and
+//! `serve PORT PEER` serves a port for a peer.
 #![tactic(auto)]
 
 mod context;
 mod failover;
 mod gateway;
 mod memory;
+mod modify_response;
 mod serving;
+mod use_module;
 
-use crate::context::{ASKS_FOR_NEW, Versions};
+use crate::context::Versions;
 use crate::failover::Failover;
-use crate::gateway::{ASKS, Gateway};
-use crate::memory::{REQUEST, relay_each};
+use crate::gateway::Gateway;
+use crate::memory::relay_each;
+use crate::modify_response::UpperCase;
 use crate::serving::serve_port;
+use crate::use_module::Guarded;
 use bytes::Bytes;
 use relay_hooks::App;
 use relay_proxy::{Defaults, ServerConf};
@@ -30,11 +35,16 @@ const CONF: ServerConf = ServerConf { max_retries: 2 };
 
 /// The application that decides nothing: what each hook does by default, and one peer.
 fn application() -> Defaults {
-    Defaults::new(Peer {
+    Defaults::new(any_peer())
+}
+
+/// The one peer, for a connector that knows where to go.
+fn any_peer() -> Peer {
+    Peer {
         address: Bytes::new(),
         tls: false,
         allows_h1: true,
-    })
+    }
 }
 
 fn main(rt: HostRuntime) -> ExitCode {
@@ -72,16 +82,15 @@ fn run<R: Env + Print + Net + Wait + AllocGlobal + Clone + Drop>(rt: &R) -> io::
 /// Relays the requests of a use in memory by its application.
 fn show<R: Print>(rt: &R, alloc: Global, word: &str) -> io::Result<()> {
     match word {
-        "memory" => relay_each(rt, alloc, application(), 0, &[REQUEST]),
-        "context" => relay_each(rt, alloc, App::new(Versions), 0, &[REQUEST, ASKS_FOR_NEW]),
-        "gateway" => relay_each(
-            rt,
-            alloc,
-            App::new(Gateway),
-            0,
-            &[REQUEST, ASKS[0], ASKS[1]],
-        ),
-        "failover" => relay_each(rt, alloc, App::new(Failover), 1, &[REQUEST]),
+        "memory" => relay_each(rt, alloc, application(), &memory::SCENE),
+        "context" => relay_each(rt, alloc, App::new(Versions), &context::SCENE),
+        "gateway" => relay_each(rt, alloc, App::new(Gateway), &gateway::SCENE),
+        "failover" => relay_each(rt, alloc, App::new(Failover), &failover::SCENE),
+        "modify_response" => {
+            let upper_case = UpperCase::new(any_peer());
+            relay_each(rt, alloc, upper_case, &modify_response::SCENE)
+        }
+        "use_module" => relay_each(rt, alloc, Guarded::new(any_peer()), &use_module::SCENE),
         _ => Err(io::Error::from(ErrorKind::InvalidInput)),
     }
 }

@@ -16,27 +16,42 @@ use std::{io, str};
 /// A request that asks for nothing but a target.
 pub(crate) const REQUEST: &str = "GET /a HTTP/1.1\r\nHost: h.example\r\n\r\n";
 
-/// What each peer answers.
-const RESPONSE: &str = "HTTP/1.1 200 OK\r\nContent-Length: 2\r\n\r\nhi";
+/// A response with a short body.
+pub(crate) const RESPONSE: &str = "HTTP/1.1 200 OK\r\nContent-Length: 2\r\n\r\nhi";
+
+/// What the links of a use give.
+pub struct Scene {
+    /// What each client asks.
+    pub requests: &'static [&'static str],
+    /// The reads of a link to a peer: what each peer answers.
+    pub response: &'static [&'static str],
+    /// How many links are refused before the first is given.
+    pub refused: usize,
+}
+
+/// One request, which is answered.
+pub(crate) const SCENE: Scene = Scene {
+    requests: &[REQUEST],
+    response: &[RESPONSE],
+    refused: 0,
+};
 
 /// The most turns that a request may take.
 const TURNS: u64 = 1_000;
 
-/// Relays requests, each of a client of its own, to peers that answer all alike, where the first
-/// `refused` links that are asked for are not given. Prints the outcome of each, the peers of its
-/// attempts and what its client was written, and then what each peer was sent.
+/// Relays the requests of a scene, each of a client of its own. Prints the outcome of each, the
+/// peers of its attempts and what its client was written, and then what each peer was sent.
 pub fn relay_each<R: Print, SV: ProxyHttp + Drop>(
     rt: &R,
     alloc: Global,
     application: SV,
-    refused: usize,
-    requests: &[&'static str],
+    scene: &Scene,
 ) -> io::Result<()> {
-    let connector = connector_to(alloc, refused, requests.len())?;
+    let connector = connector_to(alloc, scene)?;
     let purger = MemoryPurger::new(alloc, Purged::NotFound);
     let mut proxy = HttpProxy::new(alloc, application, CONF, connector, purger);
-    for request in requests {
-        let mut client = Connection::new(alloc, link_of(alloc, request)?);
+    for request in scene.requests {
+        let mut client = Connection::new(alloc, link_of(alloc, &[*request])?);
         let mut outside = Outside {
             schedule: RoundRobin::new(),
             shutdown: ShutdownAt::new(None),
@@ -63,35 +78,38 @@ fn print_peers<R: Print>(rt: &R, history: &RunRecord) -> io::Result<()> {
     Ok(())
 }
 
-/// A link that gives a text, and then is silent. It takes all that it is written.
-fn link_of(alloc: Global, text: &'static str) -> Result<ScriptLink, AllocError> {
+/// A link that gives texts, one a read, and then is silent. It takes all that it is written.
+fn link_of(alloc: Global, reads: &[&'static str]) -> Result<ScriptLink, AllocError> {
     let mut items = Vec::new(alloc);
-    items.push(ReadItem::Bytes(Bytes::from_static(text.as_bytes())))?;
+    for text in reads {
+        items.push(ReadItem::Bytes(Bytes::from_static(text.as_bytes())))?;
+    }
     Ok(ScriptLink::new(alloc, items, Vec::new(alloc)))
 }
 
-/// A connector that refuses so many links, each with a fault that lets another attempt follow, and
-/// then hands out so many, each to a peer that answers.
-fn connector_to(
-    alloc: Global,
-    refused: usize,
-    count: usize,
-) -> Result<ScriptConnector, AllocError> {
+/// A connector that refuses the links of a scene that are to be refused, each with a fault that
+/// lets another attempt follow, and then hands out one for each request.
+fn connector_to(alloc: Global, scene: &Scene) -> Result<ScriptConnector, AllocError> {
     let mut peers = Vec::new(alloc);
-    for _ in 0..refused {
-        peers.push(peer_script(alloc, Some(RetryType::Decided(true)))?)?;
+    for _ in 0..scene.refused {
+        let refusal = Some(RetryType::Decided(true));
+        peers.push(peer_script(alloc, scene.response, refusal)?)?;
     }
-    for _ in 0..count {
-        peers.push(peer_script(alloc, None)?)?;
+    for _ in scene.requests {
+        peers.push(peer_script(alloc, scene.response, None)?)?;
     }
     ScriptConnector::new(alloc, peers).ok().ok_or(AllocError)
 }
 
-/// A peer that answers; or one to which a link is refused, with a fault of that mark.
-fn peer_script(alloc: Global, connect: Option<RetryType>) -> Result<PeerScript, AllocError> {
+/// A peer that answers so; or one to which a link is refused, with a fault of that mark.
+fn peer_script(
+    alloc: Global,
+    response: &[&'static str],
+    connect: Option<RetryType>,
+) -> Result<PeerScript, AllocError> {
     Ok(PeerScript {
         name: Bytes::from_static(b"a"),
-        link: link_of(alloc, RESPONSE)?,
+        link: link_of(alloc, response)?,
         connect,
     })
 }

@@ -1,0 +1,2 @@
+pub mod UpperCase
+pub mod Guard
