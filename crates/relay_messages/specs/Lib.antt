@@ -3,7 +3,5 @@ pub mod Item
 pub mod ItemPlace
 pub mod MessageFault
 pub mod MessageLink
-pub mod MessageScript
-pub mod ScriptCustom
 pub mod ScriptMessages
 pub mod SendPlace

@@ -1,7 +1,6 @@
 //! Each public call once, with ample memory: what a script gives, in order, and what is taken.
 use crate::{
-    Came, CustomLink, GivenItem, MessageItem, MessageLink, ScriptCustom, ScriptMessages, Sent,
-    TakenItem,
+    Came, CustomLink, GivenItem, MessageItem, MessageLink, ScriptMessages, Sent, TakenItem,
 };
 use bytes::Bytes;
 use http::Method;
@@ -117,7 +116,7 @@ fn receive_messages<L: CustomLink>(link: &mut L) -> [char; 4] {
     ]
 }
 
-fn tells_its_messages(link: &ScriptCustom) -> bool {
+fn tells_its_messages(link: &ScriptMessages) -> bool {
     let (given, taken) = (link.given(), link.taken());
     given.len() == 1
         && taken.len() == 2
@@ -125,7 +124,7 @@ fn tells_its_messages(link: &ScriptCustom) -> bool {
         && matches!(&taken[1], TakenItem::Finish)
 }
 
-fn asks_a_custom_link(link: &mut ScriptCustom) -> bool {
+fn asks_a_custom_link(link: &mut ScriptMessages) -> bool {
     link.hand_out(false);
     let ways = [link.take_reader(), link.take_writer()] == [true, false];
     let silent = letter(link.recv_message()) == 's';
@@ -136,7 +135,7 @@ fn asks_a_custom_link(link: &mut ScriptCustom) -> bool {
 }
 
 fn custom(alloc: Global) -> Result<bool> {
-    let mut link = ScriptCustom::new(alloc, items(alloc)?, Vec::new(alloc), true, false);
+    let mut link = ScriptMessages::custom(alloc, items(alloc)?, Vec::new(alloc), true, false);
     Ok(asks_a_custom_link(&mut link))
 }
 
