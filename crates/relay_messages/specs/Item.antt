@@ -1,5 +1,5 @@
 -- The items of a script of a message link, and what each answers.
-use Rattle.std.specs.Prelude.{◌≡◌, ℕ, ◌-◌, ◌==◌, Bool, true, false, cond, nat_le, IsTrue}
+use Rattle.std.specs.Prelude.{◌≡◌, ℕ, ◌-◌, ◌==◌, Bool, true, false, cond, ◌&&◌, not, nat_le, IsTrue}
 use Rattle.relay_messages.specs.declared.item.Stream.{Stream}
 use Rattle.relay_messages.specs.declared.item.Stream.TheVariants.{Main, Messages}
 use Rattle.relay_messages.specs.declared.item.ItemKind.{ItemKind}
@@ -59,25 +59,22 @@ rest_of (item.After n) done = item.After n
 rest_of (item.Fault fault) done = item.Fault fault
 rest_of item.End done = item.End
 
+-- the stream of heads, bodies and trailers
+abbrev pub is_main : Stream → Bool
+is_main Main = true
+is_main Messages = false
+
 -- the stream passes over the item: it is of the other stream, or all that it answers was answered.
 -- The response has ended in front of it where `over`, and the link took `taken` items
 abbrev pub is_passed : Stream → Bool → ℕ → MessageItem → ℕ → Bool
-is_passed Main over taken (item.Head head end) done = false
-is_passed Main over taken (item.Body piece end) done = false
-is_passed Main over taken (item.Trailers fields) done = false
-is_passed Main over taken (item.Message message) done = true
-is_passed Main over taken (item.Wait n) done = nat_le n done
-is_passed Main over taken (item.After n) done = nat_le n taken
-is_passed Main over taken (item.Fault fault) done = false
-is_passed Main over taken item.End done = over
-is_passed Messages over taken (item.Head head end) done = true
-is_passed Messages over taken (item.Body piece end) done = true
-is_passed Messages over taken (item.Trailers fields) done = true
-is_passed Messages over taken (item.Message message) done = false
-is_passed Messages over taken (item.Wait n) done = nat_le n done
-is_passed Messages over taken (item.After n) done = nat_le n taken
-is_passed Messages over taken (item.Fault fault) done = false
-is_passed Messages over taken item.End done = false
+is_passed stream over taken (item.Head head end) done = not (is_main stream)
+is_passed stream over taken (item.Body piece end) done = not (is_main stream)
+is_passed stream over taken (item.Trailers fields) done = not (is_main stream)
+is_passed stream over taken (item.Message message) done = is_main stream
+is_passed stream over taken (item.Wait n) done = nat_le n done
+is_passed stream over taken (item.After n) done = nat_le n taken
+is_passed stream over taken (item.Fault fault) done = false
+is_passed stream over taken item.End done = is_main stream && over
 
 -- an item is given to a call that wants its kind, and lets any other call wait
 abbrev pub offered : ItemKind → GivenItem → Came GivenItem

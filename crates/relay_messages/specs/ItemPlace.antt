@@ -1,6 +1,7 @@
 -- The place of a stream among the items of a script, and what the item in front answers.
 use Rattle.std.specs.Prelude.{◌≡◌, ℕ, Bool, true, false, cond, ◌&&◌, ◌||◌, not, IsTrue, List, [], ◌∷◌, drop}
 use Rattle.relay_messages.specs.declared.item.Stream.{Stream}
+use Rattle.relay_messages.specs.declared.item.Stream.TheVariants.{Main, Messages}
 use Rattle.relay_messages.specs.declared.item.ItemKind.{ItemKind}
 use Rattle.relay_messages.specs.declared.item.MessageItem.{MessageItem}
 use Rattle.relay_messages.specs.declared.item.MessageItem.TheVariants as item
@@ -8,9 +9,19 @@ use Rattle.relay_messages.specs.declared.item.GivenItem.{GivenItem}
 use Rattle.relay_messages.specs.declared.message_link.Came.{Came}
 use Rattle.relay_messages.specs.declared.message_link.Came.TheVariants as came
 use Rattle.relay_messages.specs.declared.item_place.ItemPlace.{ItemPlace}
+use Rattle.relay_messages.specs.declared.item_place.StreamPlaces.{StreamPlaces}
 use Rattle.relay_messages.specs.Front.{begun, unpassed, behind}
 use Rattle.relay_messages.specs.Item.{kind_of, is_same_kind, is_last, rest_of, is_passed, answer_of, is_kept}
 use Rattle.relay_messages.specs.MessageLink.{IsReceiveFault}
+
+-- the place of a stream
+abbrev pub place_of : Stream → StreamPlaces → ItemPlace
+place_of Main places = places.main
+place_of Messages places = places.messages
+
+-- the place in front of all items
+abbrev pub first_place : ItemPlace
+first_place = record { at = 0; done = 0; over = false; ended = false }
 
 -- the items that are left at a place
 abbrev pub left_of : List MessageItem → ItemPlace → List MessageItem
@@ -117,4 +128,5 @@ Steps stream wants taken items before came.Silent after = IsSilentAt stream want
 Steps stream wants taken items before came.End after = EndsAt stream wants taken items before after
 Steps stream wants taken items before (came.Failed fault) after =
     FollowsItems stream wants taken items before (came.Failed fault) after × IsReceiveFault fault
-Steps stream wants taken items before came.OutOfMemory after = WantsRoomAt stream wants taken items before
+Steps stream wants taken items before came.OutOfMemory after =
+    WantsRoomAt stream wants taken items before

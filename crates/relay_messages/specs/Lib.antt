@@ -4,6 +4,5 @@ pub mod ItemPlace
 pub mod MessageFault
 pub mod MessageLink
 pub mod MessageScript
-pub mod ScriptCustom
-pub mod ScriptMessages
+pub mod NoMessages
 pub mod SendPlace

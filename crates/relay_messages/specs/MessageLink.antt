@@ -5,6 +5,7 @@ use Rattle.relay_tasks.specs.declared.fault.Fault.{Fault}
 use Rattle.relay_tasks.specs.declared.fault.FaultKind.TheVariants as kind
 use Rattle.relay_links.specs.declared.write_script.WriteItem.{WriteItem}
 use Rattle.relay_links.specs.Count.{last_count, up, Rose}
+use Rattle.relay_links.specs.Link.{IsReadFault, IsWriteFault}
 use Rattle.relay_links.specs.Told.{more, told_length}
 use Rattle.relay_messages.specs.declared.item.Stream.{Stream}
 use Rattle.relay_messages.specs.declared.item.Stream.TheVariants.{Main, Messages}
@@ -19,9 +20,8 @@ use Rattle.relay_messages.specs.declared.message_link.Sent.TheVariants as sent
 
 -- a message link: what it gave, what it took and the faults that it answered, in order, where it
 -- tells them; its answers NotReady, its answers other than Silent, its faults, its resets and its
--- marks for shutdown, as counts; whether the heads, bodies and trailers have ended, and whether the
--- messages have; whether it gives none of each until it takes something, and takes nothing until it
--- gives something
+-- marks for shutdown, as counts; of each stream whether it has ended, and whether it gives nothing
+-- until the link takes something; whether the link takes nothing until it gives something
 pub record MessageState : Type 0 where
   pub given : Option (List GivenItem)
   pub taken : Option (List TakenItem)
@@ -32,10 +32,8 @@ pub record MessageState : Type 0 where
   pub faults : ℕ
   pub resets : ℕ
   pub shutdowns : ℕ
-  pub ended : Bool
-  pub messages_ended : Bool
-  pub silent_on_read : Bool
-  pub messages_silent : Bool
+  pub ended : Stream → Bool
+  pub silent_on_read : Stream → Bool
   pub silent_on_write : Bool
 
 -- the items by which a message link answers, all of them, in order
@@ -61,16 +59,6 @@ pub record MessageStart : Type 0 where
   pub reader : Bool
   pub writer : Bool
 
--- the stream has given all
-abbrev pub ended_in : Stream → MessageState → Bool
-ended_in Main link = link.ended
-ended_in Messages link = link.messages_ended
-
--- the stream gives nothing until the link takes something
-abbrev pub silent_in : Stream → MessageState → Bool
-silent_in Main link = link.silent_on_read
-silent_in Messages link = link.messages_silent
-
 -- the other stream
 abbrev pub other : Stream → Stream
 other Main = Messages
@@ -81,8 +69,8 @@ pub record IsSound (link : MessageState) : Type 0 where
   pub waits_fit : link.waits ≤ last_count
   pub used_fits : link.used ≤ last_count
   pub faults_fit : link.faults ≤ last_count
-  pub ended_speaks : IsTrue link.ended → link.silent_on_read ≡ false
-  pub messages_speak : IsTrue link.messages_ended → link.messages_silent ≡ false
+  pub ended_speaks : (stream : Stream) → IsTrue (link.ended stream)
+      → link.silent_on_read stream ≡ false
 
 -- the link is as the connector hands it out
 pub record IsHandedOut (link : MessageState) (start : MessageStart) (reused : Bool) : Type 0 where
@@ -124,13 +112,12 @@ given_message came = given_item.Message came
 
 -- a fault of a receiving call
 abbrev pub IsReceiveFault : Fault → Type 0
-IsReceiveFault fault = (fault.kind ≡ kind.Read) ⊎ (fault.kind ≡ kind.ReadTimedout)
-    ⊎ (fault.kind ≡ kind.H2Error) ⊎ (fault.kind ≡ kind.H2Downgrade) ⊎ (fault.kind ≡ kind.InvalidH2)
+IsReceiveFault fault = IsReadFault fault ⊎ (fault.kind ≡ kind.H2Error)
+    ⊎ (fault.kind ≡ kind.H2Downgrade) ⊎ (fault.kind ≡ kind.InvalidH2)
 
 -- a fault of a sending call
 abbrev pub IsSendFault : Fault → Type 0
-IsSendFault fault = (fault.kind ≡ kind.Write) ⊎ (fault.kind ≡ kind.WriteTimedout)
-    ⊎ (fault.kind ≡ kind.H2Error)
+IsSendFault fault = IsWriteFault fault ⊎ (fault.kind ≡ kind.H2Error)
 
 -- what no receiving call on a stream changes: what the link took, the faults of its sends, its
 -- resets and marks, and the end of the other stream, whose silence stands
@@ -139,54 +126,54 @@ pub record LeavesOther (stream : Stream) (before after : MessageState) : Type 0 
   pub write_faults : after.write_faults ≡ before.write_faults
   pub resets : after.resets ≡ before.resets
   pub shutdowns : after.shutdowns ≡ before.shutdowns
-  pub ended : ended_in (other stream) after ≡ ended_in (other stream) before
-  pub silence_stands : IsTrue (silent_in (other stream) before)
-      → silent_in (other stream) after ≡ true
+  pub ended : after.ended (other stream) ≡ before.ended (other stream)
+  pub silence_stands : IsTrue (before.silent_on_read (other stream))
+      → after.silent_on_read (other stream) ≡ true
   pub sound_before : IsSound before
   pub sound : IsSound after
 
 -- the item was given; from then on the stream's silence, and that on sends, are as the link chooses
 pub record GivesItem (stream : Stream) (before : MessageState) (item : GivenItem)
     (after : MessageState) : Type 0 where
-  pub was_open : ended_in stream before ≡ false
-  pub spoke : silent_in stream before ≡ false
+  pub was_open : before.ended stream ≡ false
+  pub spoke : before.silent_on_read stream ≡ false
   pub given : after.given ≡ more before.given (item ∷ [])
   pub read_faults : after.read_faults ≡ before.read_faults
   pub waits : after.waits ≡ before.waits
   pub used : after.used ≡ up before.used
   pub faults : after.faults ≡ before.faults
-  pub ended : ended_in stream after ≡ false
+  pub ended : after.ended stream ≡ false
   pub rest : LeavesOther stream before after
 
 -- nothing was given, and a later call may be given something
 pub record WaitsOnReceive (stream : Stream) (before after : MessageState) : Type 0 where
-  pub was_open : ended_in stream before ≡ false
-  pub spoke : silent_in stream before ≡ false
+  pub was_open : before.ended stream ≡ false
+  pub spoke : before.silent_on_read stream ≡ false
   pub given : after.given ≡ before.given
   pub read_faults : after.read_faults ≡ before.read_faults
   pub waits : after.waits ≡ up before.waits
   pub used : after.used ≡ up before.used
   pub faults : after.faults ≡ before.faults
-  pub ended : ended_in stream after ≡ false
+  pub ended : after.ended stream ≡ false
   pub silence_stands : IsTrue before.silent_on_write → after.silent_on_write ≡ true
   pub rest : LeavesOther stream before after
 
 -- the stream gives nothing until the link takes something, and nothing changed
 pub record IsSilentOnReceive (stream : Stream) (before after : MessageState) : Type 0 where
-  pub was_open : ended_in stream before ≡ false
-  pub silent : silent_in stream before ≡ true
+  pub was_open : before.ended stream ≡ false
+  pub silent : before.silent_on_read stream ≡ true
   pub same : after ≡ before
   pub sound : IsSound before
 
 -- the stream has given all that it will give
 pub record EndsStream (stream : Stream) (before after : MessageState) : Type 0 where
-  pub spoke : silent_in stream before ≡ false
+  pub spoke : before.silent_on_read stream ≡ false
   pub given : after.given ≡ before.given
   pub read_faults : after.read_faults ≡ before.read_faults
   pub waits : after.waits ≡ before.waits
   pub used : after.used ≡ up before.used
   pub faults : after.faults ≡ before.faults
-  pub ended : ended_in stream after ≡ true
+  pub ended : after.ended stream ≡ true
   pub silence_stands : IsTrue before.silent_on_write → after.silent_on_write ≡ true
   pub rest : LeavesOther stream before after
 
@@ -194,14 +181,14 @@ pub record EndsStream (stream : Stream) (before after : MessageState) : Type 0 w
 pub record FailsReceive (stream : Stream) (before : MessageState) (fault : Fault)
     (after : MessageState) : Type 0 where
   pub kind : IsReceiveFault fault
-  pub was_open : ended_in stream before ≡ false
-  pub spoke : silent_in stream before ≡ false
+  pub was_open : before.ended stream ≡ false
+  pub spoke : before.silent_on_read stream ≡ false
   pub given : after.given ≡ before.given
   pub read_faults : after.read_faults ≡ more before.read_faults (fault ∷ [])
   pub waits : after.waits ≡ before.waits
   pub used : after.used ≡ up before.used
   pub faults : Rose before.faults after.faults
-  pub ended : ended_in stream after ≡ false
+  pub ended : after.ended stream ≡ false
   pub silence_stands : IsTrue before.silent_on_write → after.silent_on_write ≡ true
   pub rest : LeavesOther stream before after
 
@@ -213,8 +200,8 @@ pub record WantsMemory (before after : MessageState) : Type 0 where
 
 -- a receiving call on a stream that had not ended and was not silent found no memory
 pub record WantsRoom (stream : Stream) (before after : MessageState) : Type 0 where
-  pub was_open : ended_in stream before ≡ false
-  pub spoke : silent_in stream before ≡ false
+  pub was_open : before.ended stream ≡ false
+  pub spoke : before.silent_on_read stream ≡ false
   pub memory : WantsMemory before after
 
 -- what a receiving call does, by its answer: what came is given as the item of that name
@@ -236,7 +223,6 @@ pub record LeavesStreams (before after : MessageState) : Type 0 where
   pub resets : after.resets ≡ before.resets
   pub shutdowns : after.shutdowns ≡ before.shutdowns
   pub ended : after.ended ≡ before.ended
-  pub messages_ended : after.messages_ended ≡ before.messages_ended
   pub sound_before : IsSound before
   pub sound : IsSound after
 
@@ -259,8 +245,8 @@ pub record WaitsOnSend (before after : MessageState) : Type 0 where
   pub waits : after.waits ≡ up before.waits
   pub used : after.used ≡ up before.used
   pub faults : after.faults ≡ before.faults
-  pub silence_stands : IsTrue before.silent_on_read → after.silent_on_read ≡ true
-  pub messages_stand : IsTrue before.messages_silent → after.messages_silent ≡ true
+  pub silence_stands : (stream : Stream) → IsTrue (before.silent_on_read stream)
+      → after.silent_on_read stream ≡ true
   pub rest : LeavesStreams before after
 
 -- nothing is taken until the link gives something, and nothing changed
@@ -278,8 +264,8 @@ pub record FailsSend (before : MessageState) (fault : Fault) (after : MessageSta
   pub waits : after.waits ≡ before.waits
   pub used : after.used ≡ up before.used
   pub faults : Rose before.faults after.faults
-  pub silence_stands : IsTrue before.silent_on_read → after.silent_on_read ≡ true
-  pub messages_stand : IsTrue before.messages_silent → after.messages_silent ≡ true
+  pub silence_stands : (stream : Stream) → IsTrue (before.silent_on_read stream)
+      → after.silent_on_read stream ≡ true
   pub rest : LeavesStreams before after
 
 -- what a sending call does, by its answer: `item` is what it was offered

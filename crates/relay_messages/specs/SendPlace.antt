@@ -1,7 +1,8 @@
 -- The place of a link among the items of its script of sends, and what the item in front answers.
-use Rattle.std.specs.Prelude.{◌≡◌, ℕ, ◌-◌, Bool, true, false, nat_le, List, [], ◌∷◌, drop}
+use Rattle.std.specs.Prelude.{◌≡◌, ℕ, ◌-◌, Bool, true, List, [], ◌∷◌, drop}
 use Rattle.relay_links.specs.declared.write_script.WriteItem.{WriteItem}
 use Rattle.relay_links.specs.declared.write_script.WriteItem.TheVariants as item
+use Rattle.relay_links.specs.WriteScript as writes
 use Rattle.relay_messages.specs.declared.message_link.Sent.{Sent}
 use Rattle.relay_messages.specs.declared.message_link.Sent.TheVariants as sent
 use Rattle.relay_messages.specs.declared.send_place.SendPlace.{SendPlace}
@@ -9,22 +10,15 @@ use Rattle.relay_messages.specs.Front.{begun, unpassed}
 use Rattle.relay_messages.specs.MessageFault.{as_send_fault}
 use Rattle.relay_messages.specs.MessageLink.{IsSendFault}
 
--- the item is passed over: a number of bytes says nothing of whole messages, and a wait is over
--- where so many of it are done
+-- the item is passed over: a number of bytes says nothing of whole messages, and each other one is
+-- passed over as in a script of writes
 abbrev pub is_passed : WriteItem → ℕ → Bool
 is_passed (item.Take n) done = true
-is_passed (item.Wait n) done = nat_le n done
-is_passed (item.Fault fault) done = false
-
--- what is left of an item of which so many waits are done
-abbrev pub rest_of : WriteItem → ℕ → WriteItem
-rest_of (item.Take n) done = item.Take n
-rest_of (item.Wait n) done = item.Wait (n - done)
-rest_of (item.Fault fault) done = item.Fault fault
+is_passed item done = writes.is_passed item done
 
 -- the items that are left at a place
 abbrev pub sends_left : List WriteItem → SendPlace → List WriteItem
-sends_left items place = begun rest_of (drop place.at items) place.done
+sends_left items place = begun writes.rest_of (drop place.at items) place.done
 
 -- the items from the one that answers next
 abbrev pub sends_front : List WriteItem → SendPlace → List WriteItem

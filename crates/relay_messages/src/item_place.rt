@@ -1,7 +1,8 @@
 //! The place of a stream among the items of a script: which item answers its next call.
-ghost use Rattle.std.specs.Prelude.{◌≡◌, ◌<◌, ◌≤◌, ◌+◌, false};
+ghost use Rattle.std.specs.Prelude.{◌≡◌, ◌<◌, ◌≤◌, ◌+◌};
 ghost use Rattle.relay_messages.specs.declared.message_link.Came.TheVariants as came;
-ghost use Rattle.relay_messages.specs.ItemPlace.{left_of, front_of, Steps};
+ghost use Rattle.relay_messages.specs.ItemPlace.{first_place, place_of, left_of, front_of, Steps};
+ghost use Rattle.relay_messages.specs.MessageLink.{other};
 
 use crate::item::{GivenItem, ItemKind, MessageItem, Stream};
 use crate::message_link::Came;
@@ -19,7 +20,7 @@ pub struct ItemPlace {
 impl ItemPlace {
     /// The place in front of all items.
     pub fn new() -> ItemPlace
-        ensures { result ≡ record { at = 0; done = 0; over = false; ended = false } }
+        ensures { result ≡ first_place }
     {
         ItemPlace {
             at: 0,
@@ -99,5 +100,45 @@ impl ItemPlace {
             self.done += 1;
         }
         Came::NotReady
+    }
+}
+
+/// The place of each stream.
+#[derive(Clone, Copy, Debug, PartialEq, Eq)]
+pub struct StreamPlaces {
+    pub main: ItemPlace,
+    pub messages: ItemPlace,
+}
+
+impl StreamPlaces {
+    /// Each stream in front of all items.
+    pub fn new() -> StreamPlaces
+        ensures { result ≡ record { main = first_place; messages = first_place } }
+    {
+        StreamPlaces {
+            main: ItemPlace::new(),
+            messages: ItemPlace::new(),
+        }
+    }
+
+    /// The place of the stream.
+    pub fn of(&self, stream: Stream) -> ItemPlace
+        ensures { result ≡ place_of stream self.now }
+    {
+        match stream {
+            Stream::Main => self.main,
+            Stream::Messages => self.messages,
+        }
+    }
+
+    /// Puts the stream at the place; the other one stays.
+    pub fn put(&mut self, stream: Stream, place: ItemPlace)
+        ensures here { place_of stream self.new ≡ place }
+        ensures other { place_of (other stream) self.new ≡ place_of (other stream) self.old }
+    {
+        match stream {
+            Stream::Main => self.main = place,
+            Stream::Messages => self.messages = place,
+        }
     }
 }

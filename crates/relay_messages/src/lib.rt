@@ -8,17 +8,15 @@ mod item_place;
 mod message_fault;
 mod message_link;
 mod message_script;
-mod script_custom;
-mod script_messages;
+mod no_messages;
 mod send_place;
 #[cfg(test)]
 mod tests;
 
 pub use custom_link::CustomLink;
 pub use item::{GivenItem, ItemKind, MessageItem, Stream, TakenItem};
-pub use item_place::ItemPlace;
+pub use item_place::{ItemPlace, StreamPlaces};
 pub use message_link::{Came, MessageLink, Sent};
-pub use message_script::{MessageScript, MessageStarted};
-pub use script_custom::ScriptCustom;
-pub use script_messages::ScriptMessages;
+pub use message_script::{MessageScript, MessageStarted, ScriptCustom, ScriptMessages};
+pub use no_messages::NoMessages;
 pub use send_place::SendPlace;

@@ -11,13 +11,13 @@ pub fn receive_fault(fault: Fault) -> Fault
     ensures kind { IsReceiveFault result }
 {
     let kind = match fault.kind {
+        FaultKind::ReadTimedout
+        | FaultKind::H2Error
+        | FaultKind::H2Downgrade
+        | FaultKind::InvalidH2 => fault.kind,
         FaultKind::Read | FaultKind::Write | FaultKind::WriteTimedout | FaultKind::Connect => {
             FaultKind::Read
         }
-        FaultKind::ReadTimedout => FaultKind::ReadTimedout,
-        FaultKind::H2Error => FaultKind::H2Error,
-        FaultKind::H2Downgrade => FaultKind::H2Downgrade,
-        FaultKind::InvalidH2 => FaultKind::InvalidH2,
     };
     Fault {
         kind,
@@ -32,14 +32,9 @@ pub fn send_fault(fault: Fault) -> Fault
     ensures kind { IsSendFault result }
 {
     let kind = match fault.kind {
-        FaultKind::WriteTimedout => FaultKind::WriteTimedout,
-        FaultKind::H2Error => FaultKind::H2Error,
-        FaultKind::Read
-        | FaultKind::ReadTimedout
-        | FaultKind::Write
-        | FaultKind::Connect
-        | FaultKind::H2Downgrade
-        | FaultKind::InvalidH2 => FaultKind::Write,
+        FaultKind::WriteTimedout | FaultKind::H2Error => fault.kind,
+        FaultKind::Read | FaultKind::ReadTimedout | FaultKind::Write => FaultKind::Write,
+        FaultKind::Connect | FaultKind::H2Downgrade | FaultKind::InvalidH2 => FaultKind::Write,
     };
     Fault {
         kind,

@@ -1,16 +1,17 @@
-//! A message link in memory that answers by scripts: the part that plain and custom links share.
-ghost use Rattle.std.specs.Prelude.{◌≡◌, ◌++◌, ◌∷◌, [], Bool, true, false, IsTrue, Some, vec_len};
+//! Message links in memory that answer by scripts, plain and custom: they tell all that links mean.
+ghost use Rattle.std.specs.Prelude.{◌≡◌, ◌++◌, ◌∷◌, [], false, IsTrue, Some};
 ghost use Rattle.relay_messages.specs.declared.item.Stream.TheVariants.{Main, Messages};
 ghost use Rattle.relay_messages.specs.declared.item.ItemKind.TheVariants as kind;
 ghost use Rattle.relay_messages.specs.declared.item.TakenItem.TheVariants as taken_item;
 ghost use Rattle.relay_messages.specs.declared.message_link.Sent.TheVariants as sent;
 ghost use Rattle.relay_messages.specs.Item.{IsWanted};
 ghost use Rattle.relay_messages.specs.MessageLink.{Receives, Sends, WantsMemory, IsHandedOut, given_head, given_body, given_trailers, given_message, reset_once, marked_once};
-ghost use Rattle.relay_messages.specs.MessageScript.{script_state, script_start, same_item, IsFresh, KeepsScripts, StandsStill, FollowsReads, FollowsWrites};
+ghost use Rattle.relay_messages.specs.MessageScript.{script_state, script_start, same_item, IsFresh, KeepsScripts, FollowsReads, FollowsWrites};
 
+use crate::custom_link::CustomLink;
 use crate::item::{GivenItem, ItemKind, MessageItem, Stream, TakenItem};
-use crate::item_place::ItemPlace;
-use crate::message_link::{Came, Sent};
+use crate::item_place::StreamPlaces;
+use crate::message_link::{Came, MessageLink, Sent};
 use crate::send_place::SendPlace;
 use bytes::Bytes;
 use http_header::HeaderMap;
@@ -19,7 +20,7 @@ use relay_tasks::{Fault, RequestHeader, ResponseHeader};
 use std::alloc::Global;
 
 /// How long a link's lists were, and where its counts stood, when it was handed out.
-#[derive(Clone, Copy, Debug, PartialEq, Eq)]
+#[derive(Clone, Copy, Debug, Default, PartialEq, Eq)]
 pub struct MessageStarted {
     pub given: usize,
     pub taken: usize,
@@ -33,14 +34,14 @@ pub struct MessageStarted {
     pub reused: bool,
 }
 
-/// A link that gives copies of its items and takes as they say. Heads, bodies and trailers meet the
-/// items by one place, messages by another.
+/// A message link that gives copies of its items and takes as they say, past the last item
+/// everything. Heads, bodies and trailers pass over messages, and those over heads, bodies and
+/// trailers. A custom link has a reader and a writer of messages where its flags say so.
 #[derive(Drop)]
-pub struct MessageScript {
+pub struct MessageScript<const CUSTOM: bool> {
     read: Vec<MessageItem>,
     write: Vec<WriteItem>,
-    main: ItemPlace,
-    messages: ItemPlace,
+    places: StreamPlaces,
     sends: SendPlace,
     given: Vec<GivenItem>,
     taken: Vec<TakenItem>,
@@ -51,19 +52,58 @@ pub struct MessageScript {
     faults: u64,
     resets: u64,
     shutdowns: u64,
+    reader: bool,
+    writer: bool,
     started: MessageStarted,
 }
 
-impl MessageScript {
+/// A message link that is no custom link: it passes over messages.
+pub type ScriptMessages = MessageScript<false>;
+
+/// A custom link, which gives and takes messages too.
+pub type ScriptCustom = MessageScript<true>;
+
+impl MessageScript<false> {
     /// A link that has answered nothing, with these items.
-    pub fn new(alloc: Global, read: Vec<MessageItem>, write: Vec<WriteItem>) -> MessageScript
-        ensures { IsFresh result read.items write.items }
+    pub fn new(alloc: Global, read: Vec<MessageItem>, write: Vec<WriteItem>) -> ScriptMessages
+        ensures { IsFresh result read.items write.items false false }
+    {
+        MessageScript::fresh(alloc, read, write, false, false)
+    }
+}
+
+impl MessageScript<true> {
+    /// A link that has answered nothing, with these items, and with a reader and a writer of
+    /// messages where the flags say so.
+    pub fn new(
+        alloc: Global,
+        read: Vec<MessageItem>,
+        write: Vec<WriteItem>,
+        reader: bool,
+        writer: bool,
+    ) -> ScriptCustom
+        ensures { IsFresh result read.items write.items reader writer }
+    {
+        MessageScript::fresh(alloc, read, write, reader, writer)
+    }
+}
+
+impl<const CUSTOM: bool> MessageScript<CUSTOM> {
+    /// A link that has answered nothing, with these items, and with a reader and a writer of
+    /// messages where the flags say so.
+    fn fresh(
+        alloc: Global,
+        read: Vec<MessageItem>,
+        write: Vec<WriteItem>,
+        reader: bool,
+        writer: bool,
+    ) -> MessageScript<CUSTOM>
+        ensures { IsFresh result read.items write.items reader writer }
     {
         MessageScript {
             read,
             write,
-            main: ItemPlace::new(),
-            messages: ItemPlace::new(),
+            places: StreamPlaces::new(),
             sends: SendPlace::new(),
             given: Vec::new(alloc),
             taken: Vec::new(alloc),
@@ -74,18 +114,9 @@ impl MessageScript {
             faults: 0,
             resets: 0,
             shutdowns: 0,
-            started: MessageStarted {
-                given: 0,
-                taken: 0,
-                read_faults: 0,
-                write_faults: 0,
-                waits: 0,
-                used: 0,
-                faults: 0,
-                resets: 0,
-                shutdowns: 0,
-                reused: false,
-            },
+            reader,
+            writer,
+            started: MessageStarted::default(),
         }
     }
 
@@ -93,8 +124,7 @@ impl MessageScript {
     pub fn hand_out(&mut self, reused: bool)
         ensures state { script_state self.new ≡ script_state self.old }
         ensures scripts { KeepsScripts self.old self.new }
-        ensures start { (reader writer : Bool)
-            → IsHandedOut (script_state self.new) (script_start self.new reader writer) reused }
+        ensures start { IsHandedOut (script_state self.new) (script_start self.new) reused }
     {
         let (waits, used, faults) = (self.waits, self.used, self.faults);
         let (resets, shutdowns) = (self.resets, self.shutdowns);
@@ -128,7 +158,7 @@ impl MessageScript {
 
     /// How much it had taken when it was handed out.
     pub fn start_taken(&self) -> usize
-        ensures { (reader writer : Bool) → result ≡ (script_start self.now reader writer).taken }
+        ensures { result ≡ (script_start self.now).taken }
     {
         self.started.taken
     }
@@ -147,169 +177,29 @@ impl MessageScript {
         self.shutdowns
     }
 
-    /// How many calls failed.
-    pub fn faults(&self) -> u64
-        ensures { result ≡ (script_state self.now).faults }
-    {
-        self.faults
-    }
-
-    /// How many answers were other than `Silent`.
-    pub fn used(&self) -> u64
-        ensures { result ≡ (script_state self.now).used }
-    {
-        self.used
-    }
-
-    /// Offers the head of a request, and says whether the request ends with it.
-    pub fn send_head(&mut self, head: &RequestHeader, end: bool) -> Sent
-        ensures answer { Sends (script_state self.old) (taken_item.Head head.now end)
-            (script_state self.new) result }
-        ensures script { FollowsWrites self.old self.new result }
-    {
-        match head.copy() {
-            Ok(head) => self.send(TakenItem::Head(head, end)),
-            Err(_) => self.want_memory(),
-        }
-    }
-
-    /// Offers a piece of a body, and says whether the request ends with it.
-    pub fn send_body(&mut self, piece: &Bytes, end: bool) -> Sent
-        ensures answer { Sends (script_state self.old) (taken_item.Body piece.now end)
-            (script_state self.new) result }
-        ensures script { FollowsWrites self.old self.new result }
-    {
-        match piece.clone() {
-            Ok(piece) => self.send(TakenItem::Body(piece, end)),
-            Err(_) => self.want_memory(),
-        }
-    }
-
-    /// Offers a message.
-    pub fn send_message(&mut self, message: &Bytes) -> Sent
-        ensures answer { Sends (script_state self.old) (taken_item.Message message.now)
-            (script_state self.new) result }
-        ensures script { FollowsWrites self.old self.new result }
-    {
-        match message.clone() {
-            Ok(message) => self.send(TakenItem::Message(message)),
-            Err(_) => self.want_memory(),
-        }
-    }
-
-    /// Says that no further message will be sent.
-    pub fn finish_custom(&mut self) -> Sent
-        ensures answer { Sends (script_state self.old) taken_item.Finish (script_state self.new)
-            result }
-        ensures script { FollowsWrites self.old self.new result }
-    {
-        self.send(TakenItem::Finish)
-    }
-
-    /// Counts one more reset.
-    pub fn reset(&mut self)
-        ensures once { script_state self.new ≡ reset_once (script_state self.old) }
-        ensures scripts { StandsStill self.old self.new }
-    {
-        let resets = self.resets;
-        self.resets = resets.saturating_add(1);
-    }
-
-    /// Counts one more mark for shutdown.
-    pub fn mark_shutdown(&mut self)
-        ensures once { script_state self.new ≡ marked_once (script_state self.old) }
-        ensures scripts { StandsStill self.old self.new }
-    {
-        let shutdowns = self.shutdowns;
-        self.shutdowns = shutdowns.saturating_add(1);
-    }
-
     /// A send for which there was no memory.
     fn want_memory(&mut self) -> Sent
         ensures answer { (result
             ≡ sent.OutOfMemory) × WantsMemory (script_state self.old) (script_state self.new) }
-        ensures script { StandsStill self.old self.new }
+        ensures start { script_start self.new ≡ script_start self.old }
+        ensures script { KeepsScripts self.old self.new }
     {
         let (_waits, used, _faults) = (self.waits, self.used, self.faults);
         self.used = used.saturating_add(1);
         Sent::OutOfMemory
     }
 
-    /// Receives the head of a response, and whether the response ends with it.
-    pub fn recv_head(&mut self) -> Came<(ResponseHeader, bool)>
-        ensures answer { Receives Main given_head (script_state self.old) (script_state self.new)
+    /// What the item in front of the stream answers to a call that wants an item of that kind.
+    fn receive(&mut self, stream: Stream, wants: ItemKind) -> Came<GivenItem>
+        ensures answer { Receives stream same_item (script_state self.old) (script_state self.new)
             result }
-        ensures script { FollowsReads Main kind.Head given_head self.old self.new result }
-    {
-        match self.receive(ItemKind::Head) {
-            Came::Item(item) => Came::Item(item.into_head()),
-            Came::NotReady => Came::NotReady,
-            Came::Silent => Came::Silent,
-            Came::End => Came::End,
-            Came::Failed(fault) => Came::Failed(fault),
-            Came::OutOfMemory => Came::OutOfMemory,
-        }
-    }
-
-    /// Receives a piece of a body, and whether the response ends with it.
-    pub fn recv_body(&mut self) -> Came<(Bytes, bool)>
-        ensures answer { Receives Main given_body (script_state self.old) (script_state self.new)
-            result }
-        ensures script { FollowsReads Main kind.Body given_body self.old self.new result }
-    {
-        match self.receive(ItemKind::Body) {
-            Came::Item(item) => Came::Item(item.into_body()),
-            Came::NotReady => Came::NotReady,
-            Came::Silent => Came::Silent,
-            Came::End => Came::End,
-            Came::Failed(fault) => Came::Failed(fault),
-            Came::OutOfMemory => Came::OutOfMemory,
-        }
-    }
-
-    /// Receives trailers.
-    pub fn recv_trailers(&mut self) -> Came<HeaderMap>
-        ensures answer { Receives Main given_trailers (script_state self.old)
-            (script_state self.new) result }
-        ensures script { FollowsReads Main kind.Trailers given_trailers self.old self.new result }
-    {
-        match self.receive(ItemKind::Trailers) {
-            Came::Item(item) => Came::Item(item.into_trailers()),
-            Came::NotReady => Came::NotReady,
-            Came::Silent => Came::Silent,
-            Came::End => Came::End,
-            Came::Failed(fault) => Came::Failed(fault),
-            Came::OutOfMemory => Came::OutOfMemory,
-        }
-    }
-
-    /// Receives a message.
-    pub fn recv_message(&mut self) -> Came<Bytes>
-        ensures answer { Receives Messages given_message (script_state self.old)
-            (script_state self.new) result }
-        ensures script { FollowsReads Messages kind.Message given_message self.old self.new result }
-    {
-        match self.receive_message() {
-            Came::Item(item) => Came::Item(item.into_message()),
-            Came::NotReady => Came::NotReady,
-            Came::Silent => Came::Silent,
-            Came::End => Came::End,
-            Came::Failed(fault) => Came::Failed(fault),
-            Came::OutOfMemory => Came::OutOfMemory,
-        }
-    }
-
-    /// What the item in front of the heads, bodies and trailers answers to a call that wants an
-    /// item of that kind.
-    fn receive(&mut self, wants: ItemKind) -> Came<GivenItem>
-        ensures answer { Receives Main same_item (script_state self.old) (script_state self.new)
-            result }
-        ensures script { FollowsReads Main wants same_item self.old self.new result }
+        ensures start { script_start self.new ≡ script_start self.old }
+        ensures script { FollowsReads stream wants same_item self.old self.new result }
         ensures wanted { IsWanted wants result }
     {
         let (waits, used, faults) = (self.waits, self.used, self.faults);
-        let mut place = self.main;
-        let answer = place.answer(Stream::Main, wants, self.taken.len(), self.read.as_slice());
+        let mut place = self.places.of(stream);
+        let answer = place.answer(stream, wants, self.taken.len(), self.read.as_slice());
         if !matches!(&answer, Came::Silent) {
             self.used = used.saturating_add(1);
         }
@@ -318,17 +208,17 @@ impl MessageScript {
                 if !keep(&mut self.given, &item) {
                     return Came::OutOfMemory;
                 }
-                self.main = place;
+                self.places.put(stream, place);
                 Came::Item(item)
             }
             Came::NotReady => {
                 self.waits = waits.saturating_add(1);
-                self.main = place;
+                self.places.put(stream, place);
                 Came::NotReady
             }
             Came::Silent => Came::Silent,
             Came::End => {
-                self.main = place;
+                self.places.put(stream, place);
                 Came::End
             }
             Came::Failed(fault) => {
@@ -336,51 +226,7 @@ impl MessageScript {
                     return Came::OutOfMemory;
                 }
                 self.faults = faults.saturating_add(1);
-                self.main = place;
-                Came::Failed(fault)
-            }
-            Came::OutOfMemory => Came::OutOfMemory,
-        }
-    }
-
-    /// What the item in front of the messages answers to a call that wants one.
-    fn receive_message(&mut self) -> Came<GivenItem>
-        ensures answer { Receives Messages same_item (script_state self.old)
-            (script_state self.new) result }
-        ensures script { FollowsReads Messages kind.Message same_item self.old self.new result }
-        ensures wanted { IsWanted kind.Message result }
-    {
-        let (waits, used, faults) = (self.waits, self.used, self.faults);
-        let mut place = self.messages;
-        let (wants, taken) = (ItemKind::Message, self.taken.len());
-        let answer = place.answer(Stream::Messages, wants, taken, self.read.as_slice());
-        if !matches!(&answer, Came::Silent) {
-            self.used = used.saturating_add(1);
-        }
-        match answer {
-            Came::Item(item) => {
-                if !keep(&mut self.given, &item) {
-                    return Came::OutOfMemory;
-                }
-                self.messages = place;
-                Came::Item(item)
-            }
-            Came::NotReady => {
-                self.waits = waits.saturating_add(1);
-                self.messages = place;
-                Came::NotReady
-            }
-            Came::Silent => Came::Silent,
-            Came::End => {
-                self.messages = place;
-                Came::End
-            }
-            Came::Failed(fault) => {
-                if self.read_faults.push(fault).is_err() {
-                    return Came::OutOfMemory;
-                }
-                self.faults = faults.saturating_add(1);
-                self.messages = place;
+                self.places.put(stream, place);
                 Came::Failed(fault)
             }
             Came::OutOfMemory => Came::OutOfMemory,
@@ -391,6 +237,7 @@ impl MessageScript {
     /// is taken.
     fn send(&mut self, item: TakenItem) -> Sent
         ensures answer { Sends (script_state self.old) item (script_state self.new) result }
+        ensures start { script_start self.new ≡ script_start self.old }
         ensures script { FollowsWrites self.old self.new result }
     {
         let (waited, used, faults) = (self.waits, self.used, self.faults);
@@ -419,6 +266,163 @@ impl MessageScript {
             }
             Sent::Silent | Sent::OutOfMemory => unreachable!(),
         }
+    }
+}
+
+impl<const CUSTOM: bool> MessageLink for MessageScript<CUSTOM> {
+    ghost state = { script_state };
+
+    ghost start = { script_start };
+
+    fn send_head(&mut self, head: &RequestHeader, end: bool) -> Sent
+        ensures answer { Sends (script_state self.old) (taken_item.Head head.now end)
+            (script_state self.new) result }
+        ensures start { script_start self.new ≡ script_start self.old }
+        ensures script { FollowsWrites self.old self.new result }
+    {
+        match head.copy() {
+            Ok(head) => self.send(TakenItem::Head(head, end)),
+            Err(_) => self.want_memory(),
+        }
+    }
+
+    fn send_body(&mut self, piece: &Bytes, end: bool) -> Sent
+        ensures answer { Sends (script_state self.old) (taken_item.Body piece.now end)
+            (script_state self.new) result }
+        ensures start { script_start self.new ≡ script_start self.old }
+        ensures script { FollowsWrites self.old self.new result }
+    {
+        match piece.clone() {
+            Ok(piece) => self.send(TakenItem::Body(piece, end)),
+            Err(_) => self.want_memory(),
+        }
+    }
+
+    fn recv_head(&mut self) -> Came<(ResponseHeader, bool)>
+        ensures answer { Receives Main given_head (script_state self.old) (script_state self.new)
+            result }
+        ensures start { script_start self.new ≡ script_start self.old }
+        ensures script { FollowsReads Main kind.Head given_head self.old self.new result }
+    {
+        match self.receive(Stream::Main, ItemKind::Head) {
+            Came::Item(item) => Came::Item(item.into_head()),
+            Came::NotReady => Came::NotReady,
+            Came::Silent => Came::Silent,
+            Came::End => Came::End,
+            Came::Failed(fault) => Came::Failed(fault),
+            Came::OutOfMemory => Came::OutOfMemory,
+        }
+    }
+
+    fn recv_body(&mut self) -> Came<(Bytes, bool)>
+        ensures answer { Receives Main given_body (script_state self.old) (script_state self.new)
+            result }
+        ensures start { script_start self.new ≡ script_start self.old }
+        ensures script { FollowsReads Main kind.Body given_body self.old self.new result }
+    {
+        match self.receive(Stream::Main, ItemKind::Body) {
+            Came::Item(item) => Came::Item(item.into_body()),
+            Came::NotReady => Came::NotReady,
+            Came::Silent => Came::Silent,
+            Came::End => Came::End,
+            Came::Failed(fault) => Came::Failed(fault),
+            Came::OutOfMemory => Came::OutOfMemory,
+        }
+    }
+
+    fn recv_trailers(&mut self) -> Came<HeaderMap>
+        ensures answer { Receives Main given_trailers (script_state self.old)
+            (script_state self.new) result }
+        ensures start { script_start self.new ≡ script_start self.old }
+        ensures script { FollowsReads Main kind.Trailers given_trailers self.old self.new result }
+    {
+        match self.receive(Stream::Main, ItemKind::Trailers) {
+            Came::Item(item) => Came::Item(item.into_trailers()),
+            Came::NotReady => Came::NotReady,
+            Came::Silent => Came::Silent,
+            Came::End => Came::End,
+            Came::Failed(fault) => Came::Failed(fault),
+            Came::OutOfMemory => Came::OutOfMemory,
+        }
+    }
+
+    fn reset(&mut self)
+        ensures once { script_state self.new ≡ reset_once (script_state self.old) }
+        ensures start { script_start self.new ≡ script_start self.old }
+        ensures script { KeepsScripts self.old self.new }
+    {
+        let resets = self.resets;
+        self.resets = resets.saturating_add(1);
+    }
+
+    fn mark_shutdown(&mut self)
+        ensures once { script_state self.new ≡ marked_once (script_state self.old) }
+        ensures start { script_start self.new ≡ script_start self.old }
+        ensures script { KeepsScripts self.old self.new }
+    {
+        let shutdowns = self.shutdowns;
+        self.shutdowns = shutdowns.saturating_add(1);
+    }
+
+    fn faults(&self) -> u64 {
+        self.faults
+    }
+
+    fn used(&self) -> u64 {
+        self.used
+    }
+}
+
+impl CustomLink for MessageScript<true> {
+    fn take_reader(&mut self) -> bool
+        ensures reader { result ≡ (script_start self.old).reader }
+        ensures same { self.new ≡ self.old }
+    {
+        self.reader
+    }
+
+    fn take_writer(&mut self) -> bool
+        ensures writer { result ≡ (script_start self.old).writer }
+        ensures same { self.new ≡ self.old }
+    {
+        self.writer
+    }
+
+    fn recv_message(&mut self) -> Came<Bytes>
+        ensures answer { Receives Messages given_message (script_state self.old)
+            (script_state self.new) result }
+        ensures start { script_start self.new ≡ script_start self.old }
+        ensures script { FollowsReads Messages kind.Message given_message self.old self.new result }
+    {
+        match self.receive(Stream::Messages, ItemKind::Message) {
+            Came::Item(item) => Came::Item(item.into_message()),
+            Came::NotReady => Came::NotReady,
+            Came::Silent => Came::Silent,
+            Came::End => Came::End,
+            Came::Failed(fault) => Came::Failed(fault),
+            Came::OutOfMemory => Came::OutOfMemory,
+        }
+    }
+
+    fn send_message(&mut self, message: &Bytes) -> Sent
+        ensures answer { Sends (script_state self.old) (taken_item.Message message.now)
+            (script_state self.new) result }
+        ensures start { script_start self.new ≡ script_start self.old }
+        ensures script { FollowsWrites self.old self.new result }
+    {
+        match message.clone() {
+            Ok(message) => self.send(TakenItem::Message(message)),
+            Err(_) => self.want_memory(),
+        }
+    }
+
+    fn finish_custom(&mut self) -> Sent
+        ensures answer { Sends (script_state self.old) taken_item.Finish (script_state self.new)
+            result }
+        ensures start { script_start self.new ≡ script_start self.old }
+        ensures script { FollowsWrites self.old self.new result }
+    {
+        self.send(TakenItem::Finish)
     }
 }
 

@@ -70,14 +70,13 @@ impl SendPlace {
     }
 }
 
-/// Whether the item is passed over: a number of bytes says nothing of whole messages, and a wait
-/// is over where `done` waits of it are done.
+/// Whether the item is passed over, where `done` waits of it are done: a number of bytes says nothing
+/// of whole messages, and each other item is passed over as in a script of writes.
 fn is_passed(item: WriteItem, done: usize) -> bool
     ensures { result ≡ is_passed item done }
 {
     match item {
         WriteItem::Take(_) => true,
-        WriteItem::Wait(waits) => waits as usize <= done,
-        WriteItem::Fault(_) => false,
+        WriteItem::Wait(_) | WriteItem::Fault(_) => item.is_passed(done),
     }
 }
