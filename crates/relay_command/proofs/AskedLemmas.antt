@@ -2,7 +2,7 @@
 --
 --   HaveAsked        attempts asked the first of these peers, one each
 --   request_asked    so did those of a request, and it left the others
-use Rattle.std.proofs.Common.{◌≡◌, inl, inr, Option, Some, None, Ok, Err, subst, suc, List, [], ◌∷◌, ◌++◌, map, drop, length, refl, sym, ap, ◌∙◌, append_assoc, append-nil}
+use Rattle.std.proofs.Common.{◌≡◌, inl, inr, Bool, true, false, Option, Some, None, Ok, Err, subst, suc, List, [], ◌∷◌, ◌++◌, map, drop, length, refl, sym, ap, ◌∙◌, append_assoc, append-nil}
 use Rattle.std.specs.List.{All}
 use Rattle.std.proofs.Math.Seq.{drop-nil}
 use Rattle.std.proofs.lemmas.List.Elements.{All-append, All-cons, All-head, All-nil, All-tail}
@@ -10,28 +10,27 @@ use Rattle.relay_tasks.specs.declared.error.Error.{Error}
 use Rattle.relay_tasks.specs.declared.ErrorSource.TheVariants.{Upstream}
 use Rattle.relay_tasks.specs.declared.error.RetryType.{RetryType}
 use Rattle.relay_tasks.specs.declared.fault.Fault.{Fault}
-use Rattle.relay_links.specs.Connector.{Offer}
-use Rattle.relay_links.specs.ScriptLink.{script_state, script_start, AnswersBy}
-use Rattle.relay_links.specs.declared.connector.Returned.{Returned}
-use Rattle.relay_links.specs.declared.script_link.ScriptLink.{ScriptLink}
+use Rattle.relay_connector.specs.Connector.{AreNext, GetResult, Handed, IsAnswer, Offer, handed}
+use Rattle.relay_connector.specs.ScriptConnector.{AnyScript, any_state, any_start}
+use Rattle.relay_connector.specs.declared.connector.Returned.{Returned}
 use Rattle.relay_attempt.specs.Passed.{Passed}
 use Rattle.relay_request.specs.Endings.{EndsWith, AttemptsFailed, AttemptsUnfinished, AttemptsUnlinked, MadeAhead, MadeNone}
 use Rattle.relay_request.specs.Legs.{AreLegs, BeginsAt, IsLeg, Leg, behind, rebased, taken_by, taken_in}
 use Rattle.relay_request.specs.Passed.{World, Start}
 use Rattle.relay_request.specs.Refusals.{fault_told, faults_told}
-use Rattle.relay_request.specs.Taken.{AreNext, offers_for}
+use Rattle.relay_request.specs.Taken.{offers_for}
 use Rattle.relay_request.specs.Tries.{AreTries, EndsTrying, LosesTry, Refusal, fault_error, fault_of, record_of, refusals_since, tries_of, unlinked_record}
 use Rattle.relay_request.specs.declared.outcome.Outcome.{Outcome}
 use Rattle.relay_request.specs.declared.outcome.Outcome.TheVariants as ended
 use Rattle.relay_request.specs.declared.record.AttemptRecord.{AttemptRecord}
 use Rattle.relay_turns.proofs.TryLemmas.{tries_before}
-use Rattle.relay_command.specs.Exchange.{AreLinksOf, GetsNext, left_by, links_back, offers_of, peer_offer}
+use Rattle.relay_command.specs.Exchange.{AreLinksOf, GetsNext, IsRefusal, left_by, links_back, offers_of, peer_items, peer_offer}
 use Rattle.relay_json.specs.Script.{PeerSpec}
 
 -- attempts asked the first of these peers, one each: those are their links, and those offers are
 -- left
 pub record HaveAsked (peers : List PeerSpec) (attempts : List AttemptRecord)
-    (links : List (Returned ScriptLink)) (left : List Offer) : Type 0 where
+    (links : List (Returned AnyScript)) (left : List Offer) : Type 0 where
   pub are_links : AreLinksOf peers attempts links
   pub are_left : left ≡ offers_of (drop (length attempts) peers)
 
@@ -50,9 +49,17 @@ none_asked : (peers : List PeerSpec) (left : List Offer) → AreNext [] (offers_
     → HaveAsked peers [] [] left
 none_asked peers left next = record { are_links = refl; are_left = sym next }
 
+-- a peer that answers a fault in place of its link refuses it so
+refused_at : (connect : Option RetryType) (again : Bool) (peer : PeerSpec) (fault : Fault)
+    → IsAnswer (peer_offer connect again peer) (Err fault) → IsRefusal connect again fault
+refused_at (Some retry) again peer fault is = is
+refused_at None false peer fault is = absurd is
+refused_at None true peer fault is = is
+
 -- one that was refused a link, before others
 one_refused : (peers : List PeerSpec) (a : AttemptRecord) (fault : Fault)
-    (attempts : List AttemptRecord) (links : List (Returned ScriptLink)) (rest left : List Offer)
+    (attempts : List AttemptRecord) (links : List (Returned AnyScript)) (rest : List GetResult)
+    (left : List Offer)
     → a.fault ≡ Some fault → AreNext (Err fault ∷ rest) (offers_of peers) left
     → (AreNext rest (offers_of (drop 1 peers)) left → HaveAsked (drop 1 peers) attempts links left)
     → HaveAsked peers (a ∷ attempts) links left
@@ -71,31 +78,38 @@ one_refused (peer ∷ peers) a fault attempts links rest left is next goes =
     record {
       are_links = subst (λ (o : Option Fault).
           GetsNext o (peer ∷ peers) links × AreLinksOf peers attempts (left_by o links)) (sym is)
-          (next.0, others.are_links);
+          (refused_at peer.connect peer.again peer fault next.0, others.are_links);
       are_left = others.are_left;
     }
 
--- a link that a peer offers answers by the peer's items
-link_at : (connect : Option RetryType) (peer : PeerSpec) (link : ScriptLink)
-    → peer_offer connect peer ≡ Ok (script_start link).items
-    → (connect ≡ None) × AnswersBy link peer.read peer.write
-link_at None peer link is = (refl, cc)
-link_at (Some retry) peer link is = (cc, cc)
+-- a peer that answers its link has no mark; the link answers by its items, and was handed out as
+-- the peer says
+link_at : (connect : Option RetryType) (again : Bool) (peer : PeerSpec) (link : AnyScript)
+    → IsAnswer (peer_offer connect again peer) (Ok (handed (any_start link)))
+    → (connect ≡ None) × ((any_start link).items ≡ Some (peer_items peer))
+    × ((any_start link).reused ≡ again)
+link_at None false peer link is =
+    (refl, ap (λ (h : Handed). h.items) is, ap (λ (h : Handed). h.reused) is)
+link_at None true peer link is =
+    (refl, ap (λ (h : Handed). h.items) is, ap (λ (h : Handed). h.reused) is)
+link_at (Some retry) again peer link is = absurd is
 
 -- one that had that link, before others
-one_linked : (peers : List PeerSpec) (a : AttemptRecord) (r : Returned ScriptLink)
-    (attempts : List AttemptRecord) (links : List (Returned ScriptLink)) (rest left : List Offer)
-    → a.fault ≡ None → AreNext (Ok (script_start r.link).items ∷ rest) (offers_of peers) left
+one_linked : (peers : List PeerSpec) (a : AttemptRecord) (r : Returned AnyScript)
+    (attempts : List AttemptRecord) (links : List (Returned AnyScript)) (rest : List GetResult)
+    (left : List Offer)
+    → a.fault ≡ None → AreNext (Ok (handed (any_start r.link)) ∷ rest) (offers_of peers) left
     → (AreNext rest (offers_of (drop 1 peers)) left → HaveAsked (drop 1 peers) attempts links left)
     → HaveAsked peers (a ∷ attempts) (r ∷ links) left
 one_linked [] a r attempts links rest left none next goes = absurd next
 one_linked (peer ∷ peers) a r attempts links rest left none next goes =
     let others = goes next.1 in
+    let had = link_at peer.connect peer.again peer r.link next.0 in
     record {
       are_links = subst (λ (o : Option Fault).
           GetsNext o (peer ∷ peers) (r ∷ links)
           × AreLinksOf peers attempts (left_by o (r ∷ links))) (sym none)
-          (link_at peer.connect peer r.link next.0, others.are_links);
+          (record { unmarked = had.0; items = had.1; reused = had.2 }, others.are_links);
       are_left = others.are_left;
     }
 
@@ -107,7 +121,7 @@ HasFault a = (fault : Fault) × (a.fault ≡ Some fault)
 
 -- that is the first of the faults that attempts tell, and those of others follow
 one_told : (told : Option Fault) (fault : Fault) (faults : List Fault)
-    (rest offers left : List Offer) → told ≡ Some fault
+    (rest : List GetResult) (offers left : List Offer) → told ≡ Some fault
     → AreNext (map Err (fault_told told ++ faults) ++ rest) offers left
     → AreNext (Err fault ∷ (map Err faults ++ rest)) offers left
 one_told told fault faults rest offers left is next =
@@ -116,7 +130,8 @@ one_told told fault faults rest offers left is next =
 
 -- attempts that were refused links, before others
 many_refused : (peers : List PeerSpec) (tries attempts : List AttemptRecord)
-    (links : List (Returned ScriptLink)) (rest left : List Offer) → All HasFault tries
+    (links : List (Returned AnyScript)) (rest : List GetResult) (left : List Offer)
+    → All HasFault tries
     → AreNext (map Err (faults_told tries) ++ rest) (offers_of peers) left
     → ((ps : List PeerSpec) → AreNext rest (offers_of ps) left → HaveAsked ps attempts links left)
     → HaveAsked peers (tries ++ attempts) links left
@@ -136,14 +151,14 @@ told_failed (r ∷ refusals) =
     All-cons HasFault (record_of r) (map record_of refusals) (fault_of r.raised, refl)
     (told_failed refusals)
 
--- the offers behind those that were taken before are the others
-other_offers : (had faults : List Fault) (rest : List Offer)
+-- the answers behind those that were given before are the others
+other_offers : (had faults : List Fault) (rest : List GetResult)
     → drop (length had) (map Err (had ++ faults) ++ rest) ≡ map Err faults ++ rest
 other_offers [] faults rest = refl
 other_offers (fault ∷ had) faults rest = other_offers had faults rest
 
 -- so they are those of the attempts behind those that were made before
-offers_behind : (had others attempts : List AttemptRecord) (rest : List Offer)
+offers_behind : (had others attempts : List AttemptRecord) (rest : List GetResult)
     → attempts ≡ had ++ others
     → drop (length (faults_told had)) (map Err (faults_told attempts) ++ rest)
     ≡ map Err (faults_told others) ++ rest
@@ -230,12 +245,12 @@ unlinked_made s p w attempts ended.OutOfMemory (inl made) = unfinished_made s p 
 unlinked_made s p w attempts ended.OutOfMemory (inr lost) = loses_made s attempts lost.0
 
 -- the attempts of the last part asked the next peers, wherever those before left off
-record EndAsked (s : Start) (own : List (Returned ScriptLink)) (attempts : List AttemptRecord)
+record EndAsked (s : Start) (own : List (Returned AnyScript)) (attempts : List AttemptRecord)
     : Type 0 where
   others : List AttemptRecord
   are : attempts ≡ s.tried ++ others
   asked : (peers : List PeerSpec) (left : List Offer)
-      → AreNext (drop (length (faults_told s.tried)) (offers_for script_start own attempts))
+      → AreNext (drop (length (faults_told s.tried)) (offers_for any_start own attempts))
       (offers_of peers) left
       → HaveAsked peers others own left
 
@@ -248,34 +263,34 @@ unlinked_asked s attempts made = record {
   asked = λ peers left next.
       subst (λ (xs : List AttemptRecord). HaveAsked peers xs [] left) (append-nil made.others)
       (many_refused peers made.others [] [] [] left made.failed
-      (subst (λ (os : List Offer). AreNext os (offers_of peers) left)
+      (subst (λ (os : List GetResult). AreNext os (offers_of peers) left)
       (offers_behind s.tried made.others attempts [] made.are) next)
       (λ ps more. none_asked ps left more));
 }
 
 -- and where the last one had
-linked_asked : (s : Start) (r : Returned ScriptLink) (tries attempts : List AttemptRecord)
+linked_asked : (s : Start) (r : Returned AnyScript) (tries attempts : List AttemptRecord)
     (a : AttemptRecord) → attempts ≡ tries ++ a ∷ [] → AreTries s tries → a.fault ≡ None
     → EndAsked s (r ∷ []) attempts
 linked_asked s r tries attempts a all are none =
     let before = tries_made s tries are in
-    let items = (script_start r.link).items in
+    let link = handed (any_start r.link) in
     record {
       others = before.others ++ a ∷ [];
       are = all ∙ ap (λ (xs : List AttemptRecord). xs ++ a ∷ []) before.are
           ∙ append_assoc s.tried before.others (a ∷ []);
       asked = λ peers left next.
-          many_refused peers before.others (a ∷ []) (r ∷ []) (Ok items ∷ []) left before.failed
-          (subst (λ (os : List Offer). AreNext os (offers_of peers) left)
-          (offers_behind s.tried before.others (tries_of attempts) (Ok items ∷ [])
+          many_refused peers before.others (a ∷ []) (r ∷ []) (Ok link ∷ []) left before.failed
+          (subst (λ (os : List GetResult). AreNext os (offers_of peers) left)
+          (offers_behind s.tried before.others (tries_of attempts) (Ok link ∷ [])
           (tries_before tries attempts a all ∙ before.are)) next)
           (λ ps more. one_linked ps a r [] [] [] left none more
           (λ rest. none_asked (drop 1 ps) left rest));
     }
 
-ends_asked : (s : Start) (p : Passed) (w : World) (own : List (Returned ScriptLink))
+ends_asked : (s : Start) (p : Passed) (w : World) (own : List (Returned AnyScript))
     (attempts : List AttemptRecord) (outcome : Outcome)
-    → EndsWith script_state script_start s p w own attempts outcome → EndAsked s own attempts
+    → EndsWith any_state any_start s p w own attempts outcome → EndAsked s own attempts
 ends_asked s p w [] attempts outcome ends =
     unlinked_asked s attempts (unlinked_made s p w attempts outcome ends.1)
 ends_asked s p w (r ∷ []) attempts outcome ends =
@@ -286,16 +301,16 @@ ends_asked s p w (r ∷ q ∷ rest) attempts outcome ends = absurd ends
 -- ---- the attempts that were tried again
 
 -- those before the link of one of them
-abbrev refused_in : Leg ScriptLink → List AttemptRecord
+abbrev refused_in : Leg AnyScript → List AttemptRecord
 refused_in leg = map record_of (refusals_since leg.start)
 
 -- all that were made in them
-abbrev made_in : List (Leg ScriptLink) → List AttemptRecord
+abbrev made_in : List (Leg AnyScript) → List AttemptRecord
 made_in [] = []
 made_in (leg ∷ legs) = refused_in leg ++ leg.attempt ∷ made_in legs
 
 -- the attempts up to one of them are those before, and then its own
-tries_are : (s : Start) (leg : Leg ScriptLink) → IsLeg script_state script_start leg
+tries_are : (s : Start) (leg : Leg AnyScript) → IsLeg any_state any_start leg
     → BeginsAt s leg → leg.tries ≡ s.tried ++ refused_in leg
 tries_are s leg is begins =
     is.are_tries.told
@@ -303,7 +318,7 @@ tries_are s leg is begins =
     (ap (λ (x : Start). x.tried) begins.is_start)
 
 -- the attempts up to the last of them are those that were made in them
-legs_made : (s : Start) (legs : List (Leg ScriptLink)) → AreLegs script_state script_start s legs
+legs_made : (s : Start) (legs : List (Leg AnyScript)) → AreLegs any_state any_start s legs
     → (behind s legs).tried ≡ s.tried ++ made_in legs
 legs_made s [] are = sym (append-nil s.tried)
 legs_made s (leg ∷ legs) are =
@@ -314,43 +329,44 @@ legs_made s (leg ∷ legs) are =
     ∙ append_assoc s.tried (refused_in leg) (leg.attempt ∷ made_in legs)
 
 -- what was taken in one of them: its refusals, and its link
-taken_are : (leg : Leg ScriptLink) → IsLeg script_state script_start leg
-    → taken_in script_start leg
-    ≡ map Err (faults_told (refused_in leg)) ++ Ok (script_start leg.back.link).items ∷ []
+taken_are : (leg : Leg AnyScript) → IsLeg any_state any_start leg
+    → taken_in any_start leg
+    ≡ map Err (faults_told (refused_in leg)) ++ Ok (handed (any_start leg.back.link)) ∷ []
 taken_are leg is =
     offers_behind leg.start.tried (refused_in leg) leg.tries
-    (Ok (script_start leg.back.link).items ∷ []) is.are_tries.told
+    (Ok (handed (any_start leg.back.link)) ∷ []) is.are_tries.told
 
 -- and all that follows
-taken_then : (leg : Leg ScriptLink) (rest last : List Offer) → IsLeg script_state script_start leg
-    → (taken_in script_start leg ++ rest) ++ last
+taken_then : (leg : Leg AnyScript) (rest last : List GetResult) → IsLeg any_state any_start leg
+    → (taken_in any_start leg ++ rest) ++ last
     ≡ map Err (faults_told (refused_in leg))
-    ++ Ok (script_start leg.back.link).items ∷ (rest ++ last)
+    ++ Ok (handed (any_start leg.back.link)) ∷ (rest ++ last)
 taken_then leg rest last is =
-    let faults : List Offer = map Err (faults_told (refused_in leg)) in
-    let link : List Offer = Ok (script_start leg.back.link).items ∷ [] in
-    append_assoc (taken_in script_start leg) rest last
-    ∙ ap (λ (os : List Offer). os ++ (rest ++ last)) (taken_are leg is)
+    let faults : List GetResult = map Err (faults_told (refused_in leg)) in
+    let link : List GetResult = Ok (handed (any_start leg.back.link)) ∷ [] in
+    append_assoc (taken_in any_start leg) rest last
+    ∙ ap (λ (os : List GetResult). os ++ (rest ++ last)) (taken_are leg is)
     ∙ append_assoc faults link (rest ++ last)
 
 -- they asked the next peers, and those behind them the ones behind
-legs_asked : (s : Start) (legs : List (Leg ScriptLink)) (attempts : List AttemptRecord)
-    (own : List (Returned ScriptLink)) (last left : List Offer) (peers : List PeerSpec)
-    → AreLegs script_state script_start s legs
-    → AreNext (taken_by script_start legs ++ last) (offers_of peers) left
+legs_asked : (s : Start) (legs : List (Leg AnyScript)) (attempts : List AttemptRecord)
+    (own : List (Returned AnyScript)) (last : List GetResult) (left : List Offer)
+    (peers : List PeerSpec)
+    → AreLegs any_state any_start s legs
+    → AreNext (taken_by any_start legs ++ last) (offers_of peers) left
     → ((ps : List PeerSpec) → AreNext last (offers_of ps) left → HaveAsked ps attempts own left)
     → HaveAsked peers (made_in legs ++ attempts) (links_back legs own) left
 legs_asked s [] attempts own last left peers are next goes = goes peers next
 legs_asked s (leg ∷ legs) attempts own last left peers are next goes =
-    let rest = taken_by script_start legs in
+    let rest = taken_by any_start legs in
     let more = made_in legs ++ attempts in
-    let items = (script_start leg.back.link).items in
+    let link = handed (any_start leg.back.link) in
     subst (λ (xs : List AttemptRecord).
     HaveAsked peers xs (leg.back ∷ links_back legs own) left)
     (sym (append_assoc (refused_in leg) (leg.attempt ∷ made_in legs) attempts))
     (many_refused peers (refused_in leg) (leg.attempt ∷ more) (leg.back ∷ links_back legs own)
-    (Ok items ∷ (rest ++ last)) left (told_failed (refusals_since leg.start))
-    (subst (λ (os : List Offer). AreNext os (offers_of peers) left)
+    (Ok link ∷ (rest ++ last)) left (told_failed (refusals_since leg.start))
+    (subst (λ (os : List GetResult). AreNext os (offers_of peers) left)
     (taken_then leg rest last are.0) next)
     (λ ps then_link. one_linked ps leg.attempt leg.back more (links_back legs own) (rest ++ last)
     left are.0.is_record.unfaulted then_link
@@ -360,13 +376,13 @@ legs_asked s (leg ∷ legs) attempts own last left peers are next goes =
 -- ---- a request
 
 -- the attempts of a request asked the first of these peers, and it left the others
-pub request_asked : (s : Start) (legs : List (Leg ScriptLink)) (p : Passed) (w : World)
-    (own : List (Returned ScriptLink)) (attempts : List AttemptRecord) (outcome : Outcome)
+pub request_asked : (s : Start) (legs : List (Leg AnyScript)) (p : Passed) (w : World)
+    (own : List (Returned AnyScript)) (attempts : List AttemptRecord) (outcome : Outcome)
     (peers : List PeerSpec) (left : List Offer) → s.tried ≡ []
-    → AreLegs script_state script_start s legs
-    → EndsWith script_state script_start (behind s legs) p w own attempts outcome
-    → AreNext (taken_by script_start legs ++ drop (length (faults_told (behind s legs).tried))
-    (offers_for script_start own attempts)) (offers_of peers) left
+    → AreLegs any_state any_start s legs
+    → EndsWith any_state any_start (behind s legs) p w own attempts outcome
+    → AreNext (taken_by any_start legs ++ drop (length (faults_told (behind s legs).tried))
+    (offers_for any_start own attempts)) (offers_of peers) left
     → HaveAsked peers attempts (links_back legs own) left
 request_asked s legs p w own attempts outcome peers left untried are ends next =
     let last = ends_asked (behind s legs) p w own attempts outcome ends in
@@ -376,5 +392,5 @@ request_asked s legs p w own attempts outcome peers left untried are ends next =
     ∙ ap (λ (xs : List AttemptRecord). (xs ++ made_in legs) ++ last.others) untried in
     subst (λ (xs : List AttemptRecord). HaveAsked peers xs (links_back legs own) left) (sym all)
     (legs_asked s legs last.others own
-    (drop (length (faults_told (behind s legs).tried)) (offers_for script_start own attempts)) left
+    (drop (length (faults_told (behind s legs).tried)) (offers_for any_start own attempts)) left
     peers are next (λ ps more. last.asked ps left more))

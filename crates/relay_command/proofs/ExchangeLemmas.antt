@@ -1,5 +1,5 @@
 -- The requests of a run: what each leaves of the script's peers, and what is reported of it.
-use Rattle.std.proofs.Common.{◌≡◌, ◌≢◌, inl, inr, ◌⊎◌, Option, None, Ok, subst, ℕ, zero, suc, ◌+◌, List, [], ◌∷◌, ◌++◌, map, drop, take, length, Bool, true, false, Some, refl, sym, ap, ◌∙◌, append_assoc, append-nil, true≢false}
+use Rattle.std.proofs.Common.{◌≡◌, ◌≢◌, inl, inr, ◌⊎◌, Option, None, subst, ℕ, zero, suc, ◌+◌, List, [], ◌∷◌, ◌++◌, map, drop, take, length, Bool, true, false, Some, refl, sym, ap, ◌∙◌, append_assoc, append-nil, true≢false}
 use Rattle.std.specs.List.{slice_get, slice_range}
 use Rattle.std.proofs.Math.Seq.{drop-append_seam, take-length}
 use Rattle.std.proofs.lemmas.List.{length-drop, map-append}
@@ -8,13 +8,15 @@ use Rattle.relay_tasks.specs.declared.error.Error.{Error}
 use Rattle.relay_tasks.specs.declared.error.RetryType.{RetryType}
 use Rattle.relay_tasks.specs.declared.fault.Fault.{Fault}
 use Rattle.relay_tasks.specs.declared.log.LogEntry.{LogEntry}
-use Rattle.relay_links.specs.Connector.{Offer}
+use Rattle.relay_connector.specs.Connector.{Again, New, Offer}
 use Rattle.relay_links.specs.Link.{LinkItems, LinkStart, LinkState}
 use Rattle.relay_links.specs.ScriptLink.{script_state, script_start, AnswersBy}
-use Rattle.relay_links.specs.ScriptEntries.{entry_offer, offer_of, next_entries, links_returned, offers_left, faults_answered, gets_failed}
+use Rattle.relay_connector.specs.ScriptConnector.{AnyScript, any_state, any_start}
+use Rattle.relay_connector.specs.ScriptEntries.{entry_offer, offer_of, next_entries, links_returned, offers_left, faults_answered, gets_failed}
 use Rattle.relay_links.specs.Told.{Since, more}
-use Rattle.relay_links.specs.declared.connector.Returned.{Returned}
-use Rattle.relay_links.specs.declared.script_connector.PeerScript.{PeerScript}
+use Rattle.relay_connector.specs.declared.connector.Returned.{Returned}
+use Rattle.relay_connector.specs.declared.script_connector.PeerScript.{PeerScript}
+use Rattle.relay_connector.specs.declared.upstream.Upstream.TheVariants.{H1, H2, Custom}
 use Rattle.relay_links.specs.declared.script_link.ScriptLink.{ScriptLink}
 use Rattle.relay_request.specs.ClosingHooks.{Gives}
 use Rattle.relay_request.specs.Ahead.{IsOwedAhead}
@@ -30,7 +32,7 @@ use Rattle.relay_request.specs.declared.record.AttemptRecord.{AttemptRecord}
 use Rattle.relay_scripted.specs.declared.proxy.ScriptProxy.{ScriptProxy}
 use Rattle.relay_command.proofs.AskedLemmas.{request_asked}
 use Rattle.relay_command.proofs.ListLemmas.{drop_at}
-use Rattle.relay_command.specs.Exchange.{attempt_report, attempt_reports, left_by, links_back, sent_by, sents_in, sents_of, taken_of, taken_since, StartWithin, names_of, first_name, peer_offer, offers_of, IsEntryOf, AreEntriesOf, IsLogOf, Place, application_of, world_at, first_place, reported, start_at, IsRequest, Follows, AreRun, place_of, IsAt, Begins, Runs, IsRun}
+use Rattle.relay_command.specs.Exchange.{attempt_report, attempt_reports, left_by, links_back, sent_by, sents_in, sents_of, taken_of, taken_since, StartsWithin, StartWithin, names_of, first_name, peer_items, peer_offer, offers_of, IsMadeFor, IsEntryOf, AreEntriesOf, IsLogOf, Place, application_of, world_at, first_place, reported, start_at, IsRequest, Follows, AreRun, place_of, IsAt, Begins, Runs, IsRun}
 use Rattle.relay_command.specs.Report.{RequestSpec, outcome_reuse}
 use Rattle.relay_json.specs.Script.{PeerSpec, ScriptSpec}
 use Rattle.relay_command.specs.declared.exchange.Run.{Run}
@@ -50,14 +52,14 @@ reports_more names sents front attempts n a is =
     (sym (drop_at attempts n a is))
 
 -- what the links took that an attempt leaves
-pub sents_left : (told : Option Fault) (links : List (Returned ScriptLink))
+pub sents_left : (told : Option Fault) (links : List (Returned AnyScript))
     → sents_of (left_by told links) ≡ left_by told (sents_of links)
 sents_left (Some fault) links = refl
 sents_left None [] = refl
 sents_left None (r ∷ links) = refl
 
 -- these start within what they took as well
-pub start_left : (told : Option Fault) (links : List (Returned ScriptLink)) → StartWithin links
+pub start_left : (told : Option Fault) (links : List (Returned AnyScript)) → StartWithin links
     → StartWithin (left_by told links)
 start_left (Some fault) links start = start
 start_left None [] start = tt
@@ -88,18 +90,28 @@ nothing_more names sents (a ∷ attempts) =
 
 -- ---- the peers of a script
 
+-- the link that is made for a peer answers by its items
+made_items : (peer : PeerSpec) (link : AnyScript) → IsMadeFor peer link
+    → (any_start link).items ≡ Some (peer_items peer)
+made_items peer (H1 link) made = made.items
+made_items peer (H2 link) made = absurd made
+made_items peer (Custom link) made = absurd made
+
 -- what an entry with that mark, or without one, is for
-entry_at : (connect : Option RetryType) (peer : PeerSpec) (link : ScriptLink)
-    → AnswersBy link peer.read peer.write → entry_offer connect link ≡ peer_offer connect peer
-entry_at None peer link by = ap (λ (items : Option LinkItems). Ok items) by
-entry_at (Some retry) peer link by = refl
+entry_at : (connect : Option RetryType) (again : Bool) (peer : PeerSpec) (link : AnyScript)
+    → (any_start link).items ≡ Some (peer_items peer)
+    → entry_offer connect again link ≡ peer_offer connect again peer
+entry_at (Some retry) again peer link by = refl
+entry_at None false peer link by = ap (λ (items : Option LinkItems). New items) by
+entry_at None true peer link by = ap (λ (items : Option LinkItems). Again items) by
 
 -- a peer's entry has what the peer offers
 entry_is : (peer : PeerSpec) (entry : PeerScript) → IsEntryOf peer entry
-    → offer_of entry ≡ peer_offer peer.connect peer
+    → offer_of entry ≡ peer_offer peer.connect peer.again peer
 entry_is peer entry is =
-    ap (λ (c : Option RetryType). entry_offer c entry.link) is.connect
-    ∙ entry_at peer.connect peer entry.link is.link.items
+    ap (λ (c : Option RetryType). entry_offer c entry.again entry.link) is.connect
+    ∙ ap (λ (a : Bool). entry_offer peer.connect a entry.link) is.again
+    ∙ entry_at peer.connect peer.again peer entry.link (made_items peer entry.link is.link)
 
 -- so the entries of peers have what they offer
 pub offers_are : (peers : List PeerSpec) (entries : List PeerScript) → AreEntriesOf peers entries
@@ -147,57 +159,68 @@ unlinked_sent s p w (ended.Served (Some e) reuse) ends = ahead_sent s p w e ends
 unlinked_sent s p w ended.TurnLimit ends = sym ends.sent
 unlinked_sent s p w ended.OutOfMemory ends = sym ends.sent
 
+-- what was sent over a link is what it took since it was handed out
+sent_over : (link : AnyScript) (sent : List ℕ)
+    → Since [] (any_start link).taken (any_state link).taken sent
+    → StartsWithin link × (taken_since link ≡ sent)
+sent_over (H1 link) sent since = since
+sent_over (H2 link) sent since = since
+sent_over (Custom link) sent since = since
+
 -- the bytes that the links of attempts took that were tried again are those that were sent
-legs_sent : (s : Start) (legs : List (Leg ScriptLink)) → AreLegs script_state script_start s legs
-    → sents_of (map (λ (leg : Leg ScriptLink). leg.back) legs)
-    ≡ map (λ (leg : Leg ScriptLink). leg.passed.sent) legs
+legs_sent : (s : Start) (legs : List (Leg AnyScript)) → AreLegs any_state any_start s legs
+    → sents_of (map (λ (leg : Leg AnyScript). leg.back) legs)
+    ≡ map (λ (leg : Leg AnyScript). leg.passed.sent) legs
 legs_sent s [] are = refl
 legs_sent s (leg ∷ legs) are =
-    let backs : List (Returned ScriptLink) = map (λ (k : Leg ScriptLink). k.back) legs in
-    ap (λ (sent : List ℕ). sent ∷ sents_of backs) are.0.tells.sent.1
+    let backs : List (Returned AnyScript) = map (λ (k : Leg AnyScript). k.back) legs in
+    ap (λ (sent : List ℕ). sent ∷ sents_of backs)
+    (sent_over leg.back.link leg.passed.sent are.0.tells.sent).1
     ∙ ap (λ (sents : List (List ℕ)). leg.passed.sent ∷ sents)
     (legs_sent (rebased s leg) legs are.2)
 
 -- so it is of all links of a request, and where the last part had none, nothing was sent in it
-sents_are : (s : Start) (legs : List (Leg ScriptLink)) (p : Passed) (w : World)
-    (own : List (Returned ScriptLink)) (names : List (List ℕ)) (attempts : List AttemptRecord)
-    (outcome : Outcome) → AreLegs script_state script_start s legs
-    → EndsWith script_state script_start (behind s legs) p w own attempts outcome
+sents_are : (s : Start) (legs : List (Leg AnyScript)) (p : Passed) (w : World)
+    (own : List (Returned AnyScript)) (names : List (List ℕ)) (attempts : List AttemptRecord)
+    (outcome : Outcome) → AreLegs any_state any_start s legs
+    → EndsWith any_state any_start (behind s legs) p w own attempts outcome
     → attempt_reports names (sents_of (links_back legs own)) attempts
     ≡ attempt_reports names (sents_in legs p.sent) attempts
 sents_are s legs p w [] names attempts outcome are ends =
-    let backs : List (Returned ScriptLink) = map (λ (leg : Leg ScriptLink). leg.back) legs in
-    let sents : List (List ℕ) = map (λ (leg : Leg ScriptLink). leg.passed.sent) legs in
+    let backs : List (Returned AnyScript) = map (λ (leg : Leg AnyScript). leg.back) legs in
+    let sents : List (List ℕ) = map (λ (leg : Leg AnyScript). leg.passed.sent) legs in
     ap (λ (xs : List (List ℕ)). attempt_reports names xs attempts)
-    (ap (λ (rs : List (Returned ScriptLink)). sents_of rs) (append-nil backs)
+    (ap (λ (rs : List (Returned AnyScript)). sents_of rs) (append-nil backs)
     ∙ legs_sent s legs are)
     ∙ nothing_more names sents attempts
     ∙ ap (λ (sent : List ℕ). attempt_reports names (sents ++ sent ∷ []) attempts)
     (unlinked_sent (behind s legs) p w outcome ends.0)
 sents_are s legs p w (r ∷ []) names attempts outcome are ends =
-    let backs : List (Returned ScriptLink) = map (λ (leg : Leg ScriptLink). leg.back) legs in
-    let sents : List (List ℕ) = map (λ (leg : Leg ScriptLink). leg.passed.sent) legs in
+    let backs : List (Returned AnyScript) = map (λ (leg : Leg AnyScript). leg.back) legs in
+    let sents : List (List ℕ) = map (λ (leg : Leg AnyScript). leg.passed.sent) legs in
     ap (λ (xs : List (List ℕ)). attempt_reports names xs attempts)
-    (map-append (λ (k : Returned ScriptLink). taken_since k.link) backs (r ∷ [])
+    (map-append (λ (k : Returned AnyScript). taken_since k.link) backs (r ∷ [])
     ∙ ap (λ (xs : List (List ℕ)). xs ++ taken_since r.link ∷ []) (legs_sent s legs are)
-    ∙ ap (λ (sent : List ℕ). sents ++ sent ∷ []) ends.tells.sent.1)
+    ∙ ap (λ (sent : List ℕ). sents ++ sent ∷ []) (sent_over r.link p.sent ends.tells.sent).1)
 sents_are s legs p w (r ∷ q ∷ rest) names attempts outcome are ends = absurd ends
 
 -- the link of the last part starts within what it took
-end_starts : (s : Start) (p : Passed) (w : World) (own : List (Returned ScriptLink))
+end_starts : (s : Start) (p : Passed) (w : World) (own : List (Returned AnyScript))
     (attempts : List AttemptRecord) (outcome : Outcome)
-    → EndsWith script_state script_start s p w own attempts outcome → StartWithin own
+    → EndsWith any_state any_start s p w own attempts outcome → StartWithin own
 end_starts s p w [] attempts outcome ends = tt
-end_starts s p w (r ∷ []) attempts outcome ends = (ends.tells.sent.0, tt)
+end_starts s p w (r ∷ []) attempts outcome ends = ((sent_over r.link p.sent ends.tells.sent).0, tt)
 end_starts s p w (r ∷ q ∷ rest) attempts outcome ends = absurd ends
 
 -- and so do those of attempts that were tried again
-all_start : (s : Start) (legs : List (Leg ScriptLink)) (own : List (Returned ScriptLink))
-    → AreLegs script_state script_start s legs → StartWithin own
+all_start : (s : Start) (legs : List (Leg AnyScript)) (own : List (Returned AnyScript))
+    → AreLegs any_state any_start s legs → StartWithin own
     → StartWithin (links_back legs own)
 all_start s [] own are start = start
-all_start s (leg ∷ legs) own are start =
-    (are.0.tells.sent.0, all_start (rebased s leg) legs own are.2 start)
+all_start s (leg ∷ legs) own are start = (
+  (sent_over leg.back.link leg.passed.sent are.0.tells.sent).0,
+  all_start (rebased s leg) legs own are.2 start,
+)
 
 -- what stands from a place to the end
 pub range_end : {A : Type 0} (xs : List A) (from : ℕ)
@@ -206,34 +229,34 @@ range_end xs from =
     ap (λ n. take n (drop from xs)) (sym (length-drop from xs)) ∙ take-length (drop from xs)
 
 -- the links that came back in a request are its own, behind the ones from before
-pub own_is : (before after own : List (Returned ScriptLink)) → Some after ≡ more (Some before) own
+pub own_is : (before after own : List (Returned AnyScript)) → Some after ≡ more (Some before) own
     → after ≡ before ++ own
 own_is before after own gained = same_Some after (before ++ own) gained
 
-pub own_behind : (before after own : List (Returned ScriptLink))
+pub own_behind : (before after own : List (Returned AnyScript))
     → Some after ≡ more (Some before) own → drop (length before) after ≡ own
 own_behind before after own gained =
     ap (λ rs. drop (length before) rs) (own_is before after own gained)
     ∙ drop-append_seam before own
 
 -- they start within what they took
-pub back_start : (s : Start) (w : World) (before after : List (Returned ScriptLink))
+pub back_start : (s : Start) (w : World) (before after : List (Returned AnyScript))
     (told_before told_after : Option (List Fault)) (had has : Option (List Offer))
     (client : LinkState) (turns : ℕ) (processed : Processed)
-    → Processes script_state script_start s w (Some before) (Some after) told_before told_after
+    → Processes any_state any_start s w (Some before) (Some after) told_before told_after
     had has client turns processed
     → StartWithin (drop (length before) after)
 back_start s w before after told_before told_after had has client turns processed run =
-    subst (λ (rs : List (Returned ScriptLink)). StartWithin rs)
+    subst (λ (rs : List (Returned AnyScript)). StartWithin rs)
     (sym (own_behind before after (links_back run.legs run.own) run.gained))
     (all_start s run.legs run.own run.are_legs
     (end_starts (behind s run.legs) run.passed w run.own processed.history.attempts run.came
     run.ended.ends))
 
 -- nothing is ahead of a client that goes back
-pub clear_again : (s : Start) (p : Passed) (w : World) (own : List (Returned ScriptLink))
+pub clear_again : (s : Start) (p : Passed) (w : World) (own : List (Returned AnyScript))
     (records : List AttemptRecord) (outcome : Outcome)
-    → EndsWith script_state script_start s p w own records outcome
+    → EndsWith any_state any_start s p w own records outcome
     → outcome_reuse outcome ≡ true → w.ahead ≡ []
 clear_again s p w own records ended.NoRequest ends back = cc
 clear_again s p w own records (ended.Refused error) ends back = cc
@@ -249,17 +272,17 @@ clear_again s p w [] records (ended.Served (Some e) reuse) ends back =
     absurd (true≢false (sym back ∙ ends.0.1))
 clear_again s p w (r ∷ []) records (ended.Served None reuse) ends back = clear ends.ends back
   where
-    clear : IsRelayedWhole s p w (script_state r.link) (script_start r.link) r.keep reuse
-        ⊎ IsRelayedEarly s p w (script_state r.link) (script_start r.link) r.keep reuse
+    clear : IsRelayedWhole s p w (any_state r.link) (any_start r.link) r.keep reuse
+        ⊎ IsRelayedEarly s p w (any_state r.link) (any_start r.link) r.keep reuse
         → reuse ≡ true → w.ahead ≡ []
     clear (inl whole) back = (whole.goes_back.0 back).nothing_ahead
     clear (inr early) back = (early.goes_back.0 back).nothing_ahead
 clear_again s p w (r ∷ []) records (ended.Served (Some e) reuse) ends back =
     stays e ends.ends back
   where
-    stays : (e : Error) → IsFailedAttempt s p w (script_state r.link) (script_start r.link) r.keep
+    stays : (e : Error) → IsFailedAttempt s p w (any_state r.link) (any_start r.link) r.keep
         reuse e
-        ⊎ IsUnsentAttempt s p w (script_state r.link) (script_start r.link) r.keep reuse e
+        ⊎ IsUnsentAttempt s p w (any_state r.link) (any_start r.link) r.keep reuse e
         → reuse ≡ true → w.ahead ≡ []
     stays e (inl failed) back = absurd (true≢false (sym back ∙ failed.stays))
     stays e (inr unsent) back = absurd (true≢false (sym back ∙ unsent.stays))
@@ -281,19 +304,19 @@ back_given log came now (Gives.cut error reuse was (inr lost)) back =
     absurd (true≢false (sym back ∙ ap (λ (o : Outcome). outcome_reuse o) lost))
 
 -- what is reported as written is what was, where no attempt was tried again
-written_is : (s : Start) (legs : List (Leg ScriptLink)) (p : Passed) (w : World)
+written_is : (s : Start) (legs : List (Leg AnyScript)) (p : Passed) (w : World)
     (client : ScriptLink) (written : List ℕ) → legs ≡ []
     → w.client ≡ script_state client → TellsClient (behind s legs) p w
     → written ≡ drop s.taken (taken_of client) → written ≡ p.written
 written_is s legs p w client written none is tells wrote =
     wrote
     ∙ (subst (λ (c : LinkState). Since [] s.taken c.taken p.written) is
-    (subst (λ (ls : List (Leg ScriptLink)). TellsClient (behind s ls) p w) none tells).written).1
+    (subst (λ (ls : List (Leg AnyScript)). TellsClient (behind s ls) p w) none tells).written).1
 
 -- what is reported of a request that the proxy made over the links of a script
 pub is_request : (script : ScriptSpec) (from to : Place) (written : List ℕ)
-    (links : List (Returned ScriptLink)) (processed : Processed)
-    (run : Processes script_state script_start (start_at script from processed.history.log)
+    (links : List (Returned AnyScript)) (processed : Processed)
+    (run : Processes any_state any_start (start_at script from processed.history.log)
     (world_at to) (Some from.returned) (Some to.returned) from.refusals to.refusals
     (Some (offers_of from.peers)) (Some (offers_of to.peers))
     (script_state from.client) script.turns processed)
@@ -323,7 +346,7 @@ is_request script from to written links processed run asked logged client clear 
       written = is_written;
       passed = λ none. written_is s run.legs run.passed (world_at to) to.client written none refl
           run.ended.tells is_written;
-      attempts = ap (λ (rs : List (Returned ScriptLink)).
+      attempts = ap (λ (rs : List (Returned AnyScript)).
           attempt_reports (names_of from.peers) (sents_of rs) processed.history.attempts) are_back
           ∙ sents_are s run.legs run.passed (world_at to) run.own (names_of from.peers)
           processed.history.attempts run.came run.are_legs run.ended.ends;
@@ -333,9 +356,9 @@ is_request script from to written links processed run asked logged client clear 
 
 -- what a run made of the next request, by the values that the code has
 pub run_next : (script : ScriptSpec) (peers : List PeerSpec) (old new : Run) (processed : Processed)
-    (turns : ℕ) (written : List ℕ) (links : List (Returned ScriptLink)) (request : RequestSpec)
+    (turns : ℕ) (written : List ℕ) (links : List (Returned AnyScript)) (request : RequestSpec)
     → script.turns ≡ turns → IsAt script old peers
-    → Processes script_state script_start
+    → Processes any_state any_start
     (called_to (start_of old.proxy.conf.max_retries (world_at (place_of old peers)))
     processed.history.log)
     (world_at (place_of new peers))
@@ -383,26 +406,26 @@ run_next script peers old new processed turns written links request many at ran 
     rest = drop (length processed.history.attempts) peers
 
     -- with what the peers offer
-    offered : Processes script_state script_start
+    offered : Processes any_state any_start
         (start_at script (place_of old peers) processed.history.log) (world_at (place_of new rest))
         (Some (links_returned old.proxy.connector)) (Some (links_returned new.proxy.connector))
         (faults_answered old.proxy.connector) (faults_answered new.proxy.connector)
         (Some (offers_of peers)) (Some (offers_left new.proxy.connector))
         (script_state old.client.link) script.turns processed
     offered =
-        subst (λ (n : ℕ). Processes script_state script_start
+        subst (λ (n : ℕ). Processes any_state any_start
         (start_at script (place_of old peers) processed.history.log) (world_at (place_of new rest))
         (Some (links_returned old.proxy.connector)) (Some (links_returned new.proxy.connector))
         (faults_answered old.proxy.connector) (faults_answered new.proxy.connector)
         (Some (offers_of peers)) (Some (offers_left new.proxy.connector))
         (script_state old.client.link) n processed) (sym many)
-        (subst (λ (os : List Offer). Processes script_state script_start
+        (subst (λ (os : List Offer). Processes any_state any_start
         (start_at script (place_of old peers) processed.history.log) (world_at (place_of new rest))
         (Some (links_returned old.proxy.connector)) (Some (links_returned new.proxy.connector))
         (faults_answered old.proxy.connector) (faults_answered new.proxy.connector)
         (Some os) (Some (offers_left new.proxy.connector))
         (script_state old.client.link) turns processed) at.offers
-        (subst (λ (n : ℕ). Processes script_state script_start
+        (subst (λ (n : ℕ). Processes any_state any_start
         (called_to (start_of n (world_at (place_of old peers))) processed.history.log)
         (world_at (place_of new peers))
         (Some (links_returned old.proxy.connector)) (Some (links_returned new.proxy.connector))
@@ -417,13 +440,13 @@ run_next script peers old new processed turns written links request many at ran 
         processed.history.attempts offered.came peers (offers_left new.proxy.connector) refl
         offered.are_legs offered.ended.ends offered.offered).are_left
 
-    run : Processes script_state script_start
+    run : Processes any_state any_start
         (start_at script (place_of old peers) processed.history.log) (world_at (place_of new rest))
         (Some (links_returned old.proxy.connector)) (Some (links_returned new.proxy.connector))
         (faults_answered old.proxy.connector) (faults_answered new.proxy.connector)
         (Some (offers_of peers)) (Some (offers_of rest))
         (script_state old.client.link) script.turns processed
-    run = subst (λ (os : List Offer). Processes script_state script_start
+    run = subst (λ (os : List Offer). Processes any_state any_start
         (start_at script (place_of old peers) processed.history.log) (world_at (place_of new rest))
         (Some (links_returned old.proxy.connector)) (Some (links_returned new.proxy.connector))
         (faults_answered old.proxy.connector) (faults_answered new.proxy.connector)
@@ -470,7 +493,7 @@ ends_at script most from to request is gone =
 
 -- a place at which nothing has passed is the first one
 place_is : (client : ScriptLink) (ahead : List ℕ) (faults : ℕ) (refusals : Option (List Fault))
-    (returned : List (Returned ScriptLink)) (peers : List PeerSpec)
+    (returned : List (Returned AnyScript)) (peers : List PeerSpec)
     → ahead ≡ [] → faults ≡ 0 → refusals ≡ Some [] → returned ≡ []
     → ◌≡◌ {A = Place} (record {
       client = client;

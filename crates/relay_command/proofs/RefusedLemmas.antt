@@ -10,9 +10,11 @@ use Rattle.relay_links.specs.Link.{LinkState, LinkItems}
 use Rattle.relay_links.specs.ReadScript.{given_of, left_items, script_given, script_left, IsAtEnd}
 use Rattle.relay_links.specs.ReadScript as reads
 use Rattle.relay_links.specs.declared.write_script.WriteItem.{WriteItem}
-use Rattle.relay_links.specs.ScriptLink.{script_state, script_start, AnswersBy}
+use Rattle.relay_links.specs.ScriptLink.{script_state, AnswersBy}
 use Rattle.relay_links.specs.Told.{Since, told_length}
-use Rattle.relay_links.specs.declared.connector.Returned.{Returned}
+use Rattle.relay_connector.specs.ScriptConnector.{AnyScript, any_state, any_start}
+use Rattle.relay_connector.specs.declared.connector.Returned.{Returned}
+use Rattle.relay_connector.specs.declared.upstream.Upstream.TheVariants.{H1, H2, Custom}
 use Rattle.relay_links.specs.declared.read_script.ReadItem.{ReadItem}
 use Rattle.relay_links.specs.declared.read_script.ReadItem.TheVariants as item
 use Rattle.relay_links.specs.declared.script_link.ScriptLink.{ScriptLink}
@@ -30,14 +32,14 @@ use Rattle.relay_links.specs.declared.list_schedule.ListSchedule.{ListSchedule}
 use Rattle.relay_request.specs.declared.outcome.Outcome.{Outcome}
 use Rattle.relay_request.specs.declared.outcome.Outcome.TheVariants as ended
 use Rattle.relay_request.specs.declared.record.AttemptRecord.{AttemptRecord}
-use Rattle.relay_command.specs.Exchange.{AreLinksOf, GetsNext, IsRefusedBy, left_by, links_back, Place, world_at, first_place, start_at, IsRequest, Follows, AreRun, IsRun}
+use Rattle.relay_command.specs.Exchange.{AreLinksOf, GetsNext, IsRefusedBy, left_by, links_back, peer_items, Place, world_at, first_place, start_at, IsRequest, Follows, AreRun, IsRun}
 use Rattle.relay_command.specs.Report.{RequestSpec, outcome_reuse}
 use Rattle.relay_json.specs.Script.{PeerSpec, ScriptSpec}
 
 -- a request that ended as none had no byte, and its client ended
-none_of : (s : Start) (p : Passed) (w : World) (own : List (Returned ScriptLink))
+none_of : (s : Start) (p : Passed) (w : World) (own : List (Returned AnyScript))
     (records : List AttemptRecord)
-    → EndsWith script_state script_start s p w own records ended.NoRequest → IsNoRequest s p w
+    → EndsWith any_state any_start s p w own records ended.NoRequest → IsNoRequest s p w
 none_of s p w [] records ends = ends.0
 none_of s p w (r ∷ []) records ends = absurd ends.ends
 none_of s p w (r ∷ q ∷ rest) records ends = absurd ends
@@ -80,7 +82,7 @@ first_of script (suc most) from request rest runs = record { to = runs.0; is = r
 
 -- where a request begins to read its client is the same behind attempts that were
 -- tried again
-same_begin : (s : Start) (legs : List (Leg ScriptLink))
+same_begin : (s : Start) (legs : List (Leg AnyScript))
     → ((behind s legs).ahead ≡ s.ahead) × ((behind s legs).given ≡ s.given)
 same_begin s [] = (refl, refl)
 same_begin s (leg ∷ legs) = same_begin (rebased s leg) legs
@@ -102,7 +104,7 @@ never_none script request rest b bytes items begins run none =
     let outcome : one.run.came ≡ ended.NoRequest =
     none_given one.processed.history.log one.run.came one.processed.outcome one.run.given
     (sym one.outcome ∙ none) in
-    let ends : EndsWith script_state script_start s one.run.passed w one.run.own
+    let ends : EndsWith any_state any_start s one.run.passed w one.run.own
     one.processed.history.attempts ended.NoRequest =
     rw outcome at one.run.ended.ends in
     let no = none_of s one.run.passed w one.run.own one.processed.history.attempts ends in
@@ -122,9 +124,10 @@ never_none script request rest b bytes items begins run none =
     (subst (λ (xs : List ReadItem). IsAtEnd (left_items xs last.reads.at last.reads.done)) is
     at_end)
 
--- an attempt that was refused a link asked a peer with that fault, or none was left
+-- an attempt that was refused a link asked a peer that has that fault or whose link is to be used
+-- again, or none was left
 refused_at : (attempts : List AttemptRecord) (peers : List PeerSpec)
-    (links : List (Returned ScriptLink)) (n : ℕ) (a : AttemptRecord) (fault : Fault)
+    (links : List (Returned AnyScript)) (n : ℕ) (a : AttemptRecord) (fault : Fault)
     → AreLinksOf peers attempts links → slice_get attempts n ≡ Some a → a.fault ≡ Some fault
     → IsRefusedBy (drop n peers) fault
 refused_at [] peers links n a fault are at is =
@@ -140,7 +143,7 @@ refused_at (b ∷ attempts) peers links (suc n) a fault are at is =
     (refused_at attempts (drop 1 peers) (left_by b.fault links) n a fault are.1 at is)
 
 -- an attempt tells that the connector refused it a link only where the script says so of the peer
--- at its place, or has no peer left
+-- at its place, or says that its link is to be used again, or has no peer left
 pub is_refused : (script : ScriptSpec) (from to : Place) (request : RequestSpec)
     (one : IsRequest script from to request) (n : ℕ) (a : AttemptRecord) (fault : Fault)
     → slice_get one.processed.history.attempts n ≡ Some a → a.fault ≡ Some fault
@@ -180,22 +183,42 @@ given_fits (item ∷ items) (suc at) done =
       first_bytes item items,
     )
 
--- how many bytes the items of a link have
-abbrev link_bytes : ScriptLink → ℕ
-link_bytes link = length (reads.all_bytes link.reads.items.items)
+-- how many bytes the items of the client's link have
+abbrev client_bytes : ScriptLink → ℕ
+client_bytes link = length (reads.all_bytes link.reads.items.items)
 
--- a link gives no more than those
-link_fits : (link : ScriptLink) (place : ℕ) (items : List ℕ)
-    → Since [] place (script_state link).given items → length items ≤ link_bytes link
-link_fits link place items since =
+-- it gives no more than those
+client_fits : (link : ScriptLink) (place : ℕ) (items : List ℕ)
+    → Since [] place (script_state link).given items → length items ≤ client_bytes link
+client_fits link place items since =
     let fits = given_fits link.reads.items.items link.reads.at link.reads.done in
     omega (arith, since_fits place (script_given link.reads) items since, fits)
 
--- a link that answers by items has their bytes
-bytes_are : (link : ScriptLink) (read : List ReadItem) (write : List WriteItem)
-    → AnswersBy link read write → link_bytes link ≡ length (reads.all_bytes read)
-bytes_are link read write is =
+-- where it answers by items it has their bytes
+client_has : (link : ScriptLink) (read : List ReadItem) (write : List WriteItem)
+    → AnswersBy link read write → client_bytes link ≡ length (reads.all_bytes read)
+client_has link read write is =
     ap (λ (xs : List ReadItem). length (reads.all_bytes xs)) (items_same _ _ is)
+
+-- how many bytes the items of a peer's link have: none, where it carries messages
+abbrev link_bytes : AnyScript → ℕ
+link_bytes (H1 link) = client_bytes link
+link_bytes (H2 link) = 0
+link_bytes (Custom link) = 0
+
+-- it gives no more than those
+link_fits : (link : AnyScript) (place : ℕ) (items : List ℕ)
+    → Since [] place (any_state link).given items → length items ≤ link_bytes link
+link_fits (H1 link) place items since = client_fits link place items since
+link_fits (H2 link) place items since = since_fits place [] items since
+link_fits (Custom link) place items since = since_fits place [] items since
+
+-- the link of a peer has the bytes of its items
+link_has : (peer : PeerSpec) (link : AnyScript) → (any_start link).items ≡ Some (peer_items peer)
+    → link_bytes link ≡ length (reads.all_bytes peer.read)
+link_has peer (H1 link) is = client_has link peer.read peer.write is
+link_has peer (H2 link) is = absurd (cc)
+link_has peer (Custom link) is = absurd (cc)
 
 -- how many bytes the items of the peer have which an attempt asked, by the fault of its record: of
 -- the next of these, where it had its link
@@ -210,31 +233,31 @@ peer_bytes peers [] = 0
 peer_bytes peers (a ∷ attempts) = next_bytes a.fault peers + peer_bytes (drop 1 peers) attempts
 
 -- those of links
-abbrev links_bytes : List (Returned ScriptLink) → ℕ
+abbrev links_bytes : List (Returned AnyScript) → ℕ
 links_bytes [] = 0
 links_bytes (r ∷ links) = link_bytes r.link + links_bytes links
 
-links_append : (these those : List (Returned ScriptLink))
+links_append : (these those : List (Returned AnyScript))
     → links_bytes (these ++ those) ≡ links_bytes these + links_bytes those
 links_append [] those = omega arith
 links_append (r ∷ these) those = omega (arith, links_append these those)
 
 -- the link of an attempt has those of its peer
-next_fits : (told : Option Fault) (peers : List PeerSpec) (links : List (Returned ScriptLink))
+next_fits : (told : Option Fault) (peers : List PeerSpec) (links : List (Returned AnyScript))
     → GetsNext told peers links
     → links_bytes links ≤ next_bytes told peers + links_bytes (left_by told links)
 next_fits (Some fault) peers links gets = omega arith
 next_fits None peers [] gets = absurd gets
 next_fits None [] (r ∷ links) gets = absurd gets
 next_fits None (peer ∷ peers) (r ∷ links) gets =
-    omega (arith, bytes_are r.link peer.read peer.write gets.1)
+    omega (arith, link_has peer r.link gets.items)
 
 -- so the links of attempts have those of their peers
 links_fit : (attempts : List AttemptRecord) (peers : List PeerSpec)
-    (links : List (Returned ScriptLink)) → AreLinksOf peers attempts links
+    (links : List (Returned AnyScript)) → AreLinksOf peers attempts links
     → links_bytes links ≤ peer_bytes peers attempts
 links_fit [] peers links none =
-    omega (arith, ap (λ (rs : List (Returned ScriptLink)). links_bytes rs) none)
+    omega (arith, ap (λ (rs : List (Returned AnyScript)). links_bytes rs) none)
 links_fit (a ∷ attempts) peers links are =
     omega (
       arith,
@@ -243,40 +266,40 @@ links_fit (a ∷ attempts) peers links are =
     )
 
 -- the link that the last part of a request handed back, if it did, gives no more
-own_fits : (own : List (Returned ScriptLink)) (got : List ℕ)
-    → OwnGave script_state script_start own got → length got ≤ links_bytes own
+own_fits : (own : List (Returned AnyScript)) (got : List ℕ)
+    → OwnGave any_state any_start own got → length got ≤ links_bytes own
 own_fits [] got gave = omega (arith, ap (λ (xs : List ℕ). length xs) gave)
 own_fits (r ∷ []) got gave =
-    omega (arith, link_fits r.link (script_start r.link).given got gave)
+    omega (arith, link_fits r.link (any_start r.link).given got gave)
 own_fits (r ∷ q ∷ own) got gave = absurd gave
 
 -- ---- the turns of a run
 
 -- how many bytes the client's link gave up to the end of each attempt that was tried again, of
 -- those that were counted so
-abbrev pub came_in : (tasks ends : ℕ) (legs : List (Leg ScriptLink))
-    → LegsWithin script_state script_start tasks ends legs → ℕ
+abbrev pub came_in : (tasks ends : ℕ) (legs : List (Leg AnyScript))
+    → LegsWithin any_state any_start tasks ends legs → ℕ
 came_in tasks ends [] within = 0
 came_in tasks ends (leg ∷ legs) within =
     length within.6.came + came_in within.2 within.3 legs within.7
 
 -- how many ends they had at most
-abbrev pub sides_in : List (Leg ScriptLink) → ℕ
+abbrev pub sides_in : List (Leg AnyScript) → ℕ
 sides_in [] = 0
 sides_in (leg ∷ legs) = sides_before (1 + length leg.tries) + sides_in legs
 
 -- they moved no more tasks than twice the bytes that were given in them
-legs_fit : (s : Start) (tasks ends : ℕ) (legs : List (Leg ScriptLink)) → s.ahead ≡ []
-    → AreLegs script_state script_start s legs
-    → (within : LegsWithin script_state script_start tasks ends legs)
+legs_fit : (s : Start) (tasks ends : ℕ) (legs : List (Leg AnyScript)) → s.ahead ≡ []
+    → AreLegs any_state any_start s legs
+    → (within : LegsWithin any_state any_start tasks ends legs)
     → (tasks ≤ 2 * (came_in tasks ends legs within
-    + links_bytes (map (λ (leg : Leg ScriptLink). leg.back) legs)))
+    + links_bytes (map (λ (leg : Leg AnyScript). leg.back) legs)))
     × (ends ≤ sides_in legs)
 legs_fit s tasks ends [] clear are within = (omega (arith, within.0), omega (arith, within.1))
 legs_fit s tasks ends (leg ∷ legs) clear are within =
     let w = within.6 in
     let others = legs_fit (rebased s leg) within.2 within.3 legs clear are.2 within.7 in
-    let got = link_fits leg.back.link (script_start leg.back.link).given w.got w.own_gave in
+    let got = link_fits leg.back.link (any_start leg.back.link).given w.got w.own_gave in
     let none : length leg.start.ahead ≡ 0 =
     ap (λ (x : Start). length x.ahead) are.1.is_start ∙ ap (λ (xs : List ℕ). length xs) clear in (
       omega (arith, within.4, w.tasks_within, none, got, others.0),
@@ -310,17 +333,17 @@ turns_within script from to request one =
     let s = start_at script from one.processed.history.log in
     let last = behind s run.legs in
     let w = run.bounded.within in
-    let came = link_fits to.client _ w.came w.client_gave in
-    let client = bytes_are to.client script.client script.client_write one.is_client in
+    let came = client_fits to.client _ w.came w.client_gave in
+    let client = client_has to.client script.client script.client_write one.is_client in
     let got = own_fits run.own w.got w.own_gave in
     let none : length last.ahead ≡ 0 =
     ap (λ (xs : List ℕ). length xs) ((same_begin s run.legs).0 ∙ one.clear) in
     let legs = legs_fit s run.tasks run.ends run.legs one.clear run.are_legs run.legs_within in
-    let backs : List (Returned ScriptLink) = map (λ (leg : Leg ScriptLink). leg.back) run.legs in
+    let backs : List (Returned AnyScript) = map (λ (leg : Leg AnyScript). leg.back) run.legs in
     let links = links_fit one.processed.history.attempts from.peers
     (links_back run.legs run.own) one.are_links in
     let all = links_append backs run.own in
-    let turns = turns_bounded script_state script_start last (script_state to.client) run.tasks
+    let turns = turns_bounded any_state any_start last (script_state to.client) run.tasks
     run.ends run.own one.processed.history run.bounded in
     omega (arith, turns, came, client, got, none, legs.0, legs.1, links, all)
 
@@ -332,7 +355,7 @@ pub limited : (script : ScriptSpec) (from to : Place) (request : RequestSpec)
     + ends_in script from to request one + length one.processed.history.log
     < script.turns
     → request.outcome ≡ ended.TurnLimit
-    → IsQuiet script_state script_start
+    → IsQuiet any_state any_start
     (behind (start_at script from one.processed.history.log) one.run.legs) one.run.passed
     (world_at to) one.run.own
 limited script from to request one many is =

@@ -1,16 +1,19 @@
 -- The requests of a client over scripted links, one behind the other, and what is reported of them.
-use Rattle.std.specs.Prelude.{◌≡◌, ◌≢◌, ℕ, zero, suc, ◌-◌, ◌≤◌, List, [], ◌∷◌, ◌++◌, length, drop, map, Bool, true, false, Option, Some, None, Ok, Err, unwrap_or, codes}
+use Rattle.std.specs.Prelude.{◌≡◌, ◌≢◌, ℕ, zero, suc, ◌-◌, ◌≤◌, List, [], ◌∷◌, ◌++◌, length, drop, map, Bool, true, false, Option, Some, None, unwrap_or, codes}
 use Rattle.relay_tasks.specs.declared.error.RetryType.{RetryType}
 use Rattle.relay_tasks.specs.declared.fault.Fault.{Fault}
 use Rattle.relay_tasks.specs.Log.{lines_of, most_lines}
 use Rattle.relay_tasks.specs.declared.log.LogEntry.{LogEntry}
 use Rattle.relay_tasks.specs.declared.peer.Peer.{Peer}
-use Rattle.relay_links.specs.Connector.{Offer, connect_fault}
-use Rattle.relay_links.specs.ScriptLink.{script_state, script_start, IsFresh, AnswersBy}
-use Rattle.relay_links.specs.declared.connector.Returned.{Returned}
-use Rattle.relay_links.specs.ScriptEntries.{next_entries, links_returned, offers_left, links_out, gets_failed, faults_answered}
-use Rattle.relay_links.specs.declared.script_connector.PeerScript.{PeerScript}
-use Rattle.relay_links.specs.declared.script_connector.ScriptConnector.{ScriptConnector}
+use Rattle.relay_connector.specs.Connector.{Offer, New, Again, Refusal, connect_fault, nothing_left}
+use Rattle.relay_links.specs.Link.{LinkItems}
+use Rattle.relay_links.specs.ScriptLink.{script_state, IsFresh, AnswersBy}
+use Rattle.relay_connector.specs.declared.connector.Returned.{Returned}
+use Rattle.relay_connector.specs.declared.upstream.Upstream.TheVariants.{H1, H2, Custom}
+use Rattle.relay_connector.specs.ScriptConnector.{AnyScript, any_state, any_start}
+use Rattle.relay_connector.specs.ScriptEntries.{next_entries, links_returned, links_idle, offers_left, links_out, gets_failed, faults_answered}
+use Rattle.relay_connector.specs.declared.script_connector.PeerScript.{PeerScript}
+use Rattle.relay_connector.specs.declared.script_connector.ScriptConnector.{ScriptConnector}
 use Rattle.relay_links.specs.declared.script_link.ScriptLink.{ScriptLink}
 use Rattle.relay_links.specs.declared.list_schedule.ListSchedule.{ListSchedule}
 use Rattle.relay_links.specs.ListSchedule.{branches_left}
@@ -47,20 +50,33 @@ abbrev pub first_name : List (List ℕ) → List ℕ
 first_name [] = codes "-"
 first_name (name ∷ names) = name
 
--- what the connector has for a peer: its link, which answers by its items, or a fault with its mark
-abbrev pub peer_offer : Option RetryType → PeerSpec → Offer
-peer_offer None peer = Ok (Some (record { read = peer.read; write = peer.write }))
-peer_offer (Some retry) peer = Err (connect_fault retry)
+-- the items by which the link of a peer answers
+abbrev pub peer_items : PeerSpec → LinkItems
+peer_items peer = record { read = peer.read; write = peer.write }
+
+-- what the connector has for a peer, by its `connect` and its `again`: a fault with its mark, or
+-- its link, which answers by its items, as a new one or in place of one that was kept
+abbrev pub peer_offer : Option RetryType → Bool → PeerSpec → Offer
+peer_offer (Some retry) again peer = Refusal (connect_fault retry)
+peer_offer None false peer = New (Some (peer_items peer))
+peer_offer None true peer = Again (Some (peer_items peer))
 
 -- what it has for these peers, in order
 abbrev pub offers_of : List PeerSpec → List Offer
-offers_of peers = map (λ peer. peer_offer peer.connect peer) peers
+offers_of peers = map (λ peer. peer_offer peer.connect peer.again peer) peers
+
+-- the link is one of bytes that answers by the items of the peer, and has answered nothing
+abbrev pub IsMadeFor : PeerSpec → AnyScript → Type 0
+IsMadeFor peer (H1 link) = IsFresh link peer.read peer.write
+IsMadeFor peer (H2 link) = ⊥
+IsMadeFor peer (Custom link) = ⊥
 
 -- an entry of a connector is that of the peer
 pub record IsEntryOf (peer : PeerSpec) (entry : PeerScript) : Type 0 where
   pub name : entry.name ≡ peer.name
-  pub link : IsFresh entry.link peer.read peer.write
+  pub link : IsMadeFor peer entry.link
   pub connect : entry.connect ≡ peer.connect
+  pub again : entry.again ≡ peer.again
 
 -- the entries are those of the peers, in order
 abbrev pub AreEntriesOf : List PeerSpec → List PeerScript → Type 0
@@ -72,24 +88,39 @@ AreEntriesOf (peer ∷ peers) (entry ∷ entries) = IsEntryOf peer entry × AreE
 -- the connector was not asked yet, and has the peers of a script
 pub record IsConnectorOf (peers : List PeerSpec) (connector : ScriptConnector) : Type 0 where
   pub returned : links_returned connector ≡ []
+  pub idle : links_idle connector ≡ 0
   pub out : links_out connector ≡ 0
   pub faults : gets_failed connector ≡ 0
   pub refusals : faults_answered connector ≡ Some []
   pub entries : AreEntriesOf peers (next_entries connector)
 
+-- what is answered in place of the link of a peer with that `connect` and that `again`: the fault
+-- with its mark; or, without one, that no link is there to be used again, where it is to be that
+abbrev pub IsRefusal : Option RetryType → Bool → Fault → Type 0
+IsRefusal (Some retry) again fault = fault ≡ connect_fault retry
+IsRefusal None false fault = ⊥
+IsRefusal None true fault = fault ≡ nothing_left
+
 -- the next of these peers has that fault in place of a link, or there is none
 abbrev pub IsRefusedBy : List PeerSpec → Fault → Type 0
 IsRefusedBy [] fault = Unit {0}
-IsRefusedBy (peer ∷ peers) fault = peer_offer peer.connect peer ≡ Err fault
+IsRefusedBy (peer ∷ peers) fault = IsRefusal peer.connect peer.again fault
 
--- the link is that of the next of these peers, and answers by its items
-abbrev pub IsLinkOf : List PeerSpec → ScriptLink → Type 0
+-- the link is that of the peer, which has no mark: it answers by the peer's items, and was handed
+-- out as used before exactly where the peer says so
+pub record IsOfPeer (peer : PeerSpec) (link : AnyScript) : Type 0 where
+  pub unmarked : peer.connect ≡ None
+  pub items : (any_start link).items ≡ Some (peer_items peer)
+  pub reused : (any_start link).reused ≡ peer.again
+
+-- the link is that of the next of these peers
+abbrev pub IsLinkOf : List PeerSpec → AnyScript → Type 0
 IsLinkOf [] link = ⊥
-IsLinkOf (peer ∷ peers) link = (peer.connect ≡ None) × AnswersBy link peer.read peer.write
+IsLinkOf (peer ∷ peers) link = IsOfPeer peer link
 
 -- what an attempt, by the fault of its record, got of the next of these peers: it was refused a
 -- link with that, or it has none, and had the first of these links
-abbrev pub GetsNext : Option Fault → List PeerSpec → List (Returned ScriptLink) → Type 0
+abbrev pub GetsNext : Option Fault → List PeerSpec → List (Returned AnyScript) → Type 0
 GetsNext (Some fault) peers links = IsRefusedBy peers fault
 GetsNext None peers [] = ⊥
 GetsNext None peers (r ∷ links) = IsLinkOf peers r.link
@@ -100,7 +131,7 @@ left_by (Some fault) xs = xs
 left_by None xs = drop 1 xs
 
 -- each attempt asked the next of these peers, and these are the links that they gave, in order
-abbrev pub AreLinksOf : List PeerSpec → List AttemptRecord → List (Returned ScriptLink) → Type 0
+abbrev pub AreLinksOf : List PeerSpec → List AttemptRecord → List (Returned AnyScript) → Type 0
 AreLinksOf peers [] links = links ≡ []
 AreLinksOf peers (a ∷ attempts) links =
     GetsNext a.fault peers links × AreLinksOf (drop 1 peers) attempts (left_by a.fault links)
@@ -148,30 +179,34 @@ attempt_reports names sents (a ∷ attempts) =
     attempt_report (first_name names) (sent_by a.fault sents) a
     ∷ attempt_reports (drop 1 names) (left_by a.fault sents) attempts
 
--- all bytes that a link took
+-- all bytes that the client's link took
 abbrev pub taken_of : ScriptLink → List ℕ
 taken_of link = unwrap_or (script_state link).taken []
 
--- the bytes that a link took since it was handed out
-abbrev pub taken_since : ScriptLink → List ℕ
-taken_since link = drop (script_start link).taken (taken_of link)
+-- all bytes that the link of an attempt took: a link of messages took none
+abbrev pub bytes_taken : AnyScript → List ℕ
+bytes_taken link = unwrap_or (any_state link).taken []
+
+-- the bytes that such a link took since it was handed out
+abbrev pub taken_since : AnyScript → List ℕ
+taken_since link = drop (any_start link).taken (bytes_taken link)
 
 -- the link had taken no more when it was handed out than it took in all
-abbrev pub StartsWithin : ScriptLink → Type 0
-StartsWithin link = (script_start link).taken ≤ length (taken_of link)
+abbrev pub StartsWithin : AnyScript → Type 0
+StartsWithin link = (any_start link).taken ≤ length (bytes_taken link)
 
 -- so had each of these
-abbrev pub StartWithin : List (Returned ScriptLink) → Type 0
+abbrev pub StartWithin : List (Returned AnyScript) → Type 0
 StartWithin [] = Unit {0}
 StartWithin (r ∷ links) = StartsWithin r.link × StartWithin links
 
 -- the bytes that each of these links took since it was handed out
-abbrev pub sents_of : List (Returned ScriptLink) → List (List ℕ)
+abbrev pub sents_of : List (Returned AnyScript) → List (List ℕ)
 sents_of links = map (λ r. taken_since r.link) links
 
 -- what is reported of a request at the peers of those names, whose client's link took those bytes
 -- in it, and which handed these links back
-abbrev pub reported : List (List ℕ) → Processed → List ℕ → List (Returned ScriptLink) → RequestSpec
+abbrev pub reported : List (List ℕ) → Processed → List ℕ → List (Returned AnyScript) → RequestSpec
 reported names processed written links = record {
   outcome = processed.outcome;
   written = written;
@@ -190,7 +225,7 @@ pub record Place : Type 0 where
   pub ahead : List ℕ
   pub faults : ℕ
   pub refusals : Option (List Fault)
-  pub returned : List (Returned ScriptLink)
+  pub returned : List (Returned AnyScript)
   pub peers : List PeerSpec
 
 -- the world there
@@ -214,12 +249,12 @@ abbrev pub start_at : ScriptSpec → Place → List LogEntry → Start
 start_at script from log = called_to (start_of script.retries (world_at from)) log
 
 -- the links that a request handed back: those of attempts that were tried again, and its last one
-abbrev pub links_back : List (Leg ScriptLink) → List (Returned ScriptLink)
-    → List (Returned ScriptLink)
+abbrev pub links_back : List (Leg AnyScript) → List (Returned AnyScript)
+    → List (Returned AnyScript)
 links_back legs own = map (λ leg. leg.back) legs ++ own
 
 -- the bytes that they took, where the last one took these
-abbrev pub sents_in : List (Leg ScriptLink) → List ℕ → List (List ℕ)
+abbrev pub sents_in : List (Leg AnyScript) → List ℕ → List (List ℕ)
 sents_in legs sent = map (λ leg. leg.passed.sent) legs ++ sent ∷ []
 
 -- one request of a run, from one such place to the next, and what is reported of it
@@ -227,7 +262,7 @@ pub record IsRequest (script : ScriptSpec) (from to : Place) (request : RequestS
   pub processed : Processed
   -- it ran over the links of the script, from its begin to its end, and asked for its next peers,
   -- one for each attempt
-  pub run : Processes script_state script_start (start_at script from processed.history.log)
+  pub run : Processes any_state any_start (start_at script from processed.history.log)
       (world_at to)
       (Some from.returned) (Some to.returned) from.refusals to.refusals
       (Some (offers_of from.peers)) (Some (offers_of to.peers))

@@ -8,12 +8,10 @@ ghost use Rattle.relay_json.specs.Script.{PeerSpec, ScriptSpec, peer_spec, peer_
 
 use crate::report::{AttemptReport, RequestReport, outcome_reuse};
 use bytes::Bytes;
+use relay_connector::{AnyScript, PeerScript, Returned, ScriptConnector, Upstream};
 use relay_h1::Connection;
 use relay_json::{PeerEntry, Script};
-use relay_links::{
-    Branch, CountDelay, ListSchedule, MemoryPurger, PeerScript, Returned, ScriptConnector,
-    ScriptLink, ShutdownAt,
-};
+use relay_links::{Branch, CountDelay, ListSchedule, MemoryPurger, ScriptLink, ShutdownAt};
 use relay_proxy::{AttemptList, AttemptRecord, HttpProxy, Outcome, Outside, Processed, ServerConf};
 use relay_script::CheckedRules;
 use relay_scripted::ScriptProxy;
@@ -199,8 +197,9 @@ fn entries_of(alloc: Global, peers: Vec<PeerEntry>) -> Result<Vec<PeerScript>, A
     for peer in peers {
         entries.push(PeerScript {
             name: peer.name,
-            link: ScriptLink::new(alloc, peer.read, peer.write),
+            link: Upstream::H1(ScriptLink::new(alloc, peer.read, peer.write)),
             connect: peer.connect,
+            again: peer.again,
         })?;
     }
     Ok(entries)
@@ -213,7 +212,7 @@ fn request_report(
     names: &mut VecDeque<Bytes>,
     processed: &Processed,
     written: &[u8],
-    links: &[Returned<ScriptLink>],
+    links: &[Returned<AnyScript>],
 ) -> Result<RequestReport, AllocError>
     requires { StartWithin links.now }
     ensures { IfOk result (λ request. (request_spec request
@@ -239,7 +238,7 @@ fn request_report(
 fn attempt_reports(
     alloc: Global,
     names: &mut VecDeque<Bytes>,
-    links: &[Returned<ScriptLink>],
+    links: &[Returned<AnyScript>],
     attempts: &AttemptList,
 ) -> Result<Vec<AttemptReport>, AllocError>
     requires { StartWithin links.now }
@@ -262,9 +261,9 @@ fn attempt_reports(
 /// of these.
 fn take_sent<'a>(
     alloc: Global,
-    links: &'a [Returned<ScriptLink>],
+    links: &'a [Returned<AnyScript>],
     attempt: &AttemptRecord,
-) -> Result<(Bytes, &'a [Returned<ScriptLink>]), AllocError>
+) -> Result<(Bytes, &'a [Returned<AnyScript>]), AllocError>
     requires { StartWithin links.now }
     ensures { IfOk result (λ taken. (taken.0 ≡ sent_by attempt.now.fault (sents_of links.now))
         × (taken.1.now ≡ left_by attempt.now.fault links.now)) }
@@ -294,11 +293,17 @@ fn attempt_report(name: Bytes, sent: Bytes, attempt: &AttemptRecord) -> AttemptR
     }
 }
 
-/// The bytes that a link took since it was handed out.
-fn taken_since(link: &ScriptLink) -> &[u8]
+/// The bytes that a link took since it was handed out. No script makes a link of messages yet; such
+/// a link took no bytes.
+fn taken_since(link: &AnyScript) -> &[u8]
     requires { StartsWithin link.now }
     ensures { result.now ≡ taken_since link.now }
 {
-    let taken = link.taken();
-    &taken[link.start_taken()..]
+    match link {
+        Upstream::H1(link) => {
+            let taken = link.taken();
+            &taken[link.start_taken()..]
+        }
+        Upstream::H2(_) | Upstream::Custom(_) => &[],
+    }
 }

@@ -1,5 +1,5 @@
 -- Scripts: the JSON object that says what the client and the peers of a run give.
-use Rattle.std.specs.Prelude.{ℕ, ◌+◌, ◌==◌, nat_le, ◌&&◌, List, [], ◌∷◌, true, false, if◌then◌else◌, map, Option, Some, None, option_map, Result, Ok, Err, codes}
+use Rattle.std.specs.Prelude.{ℕ, ◌+◌, ◌==◌, nat_le, ◌&&◌, List, [], ◌∷◌, Bool, true, false, if◌then◌else◌, map, Option, Some, None, option_map, Result, Ok, Err, codes}
 use Rattle.std.specs.Str.{bytes_eq, is_utf8}
 use Rattle.hex.specs.Hex.{decode_of}
 use Rattle.hex.specs.declared.error.FromHexError.{FromHexError}
@@ -23,21 +23,24 @@ use Rattle.relay_links.specs.declared.write_script.WriteItem.{WriteItem}
 use Rattle.relay_links.specs.declared.write_script.WriteItem.TheVariants as take
 use Rattle.relay_json.specs.declared.script.Script.{Script}
 use Rattle.relay_json.specs.Rules.{rules_of}
-use Rattle.relay_json.specs.Values.{◌>>=◌, key_count, has, where_there, text_of, count_of, retry_of, each_of, list_of}
+use Rattle.relay_json.specs.Values.{◌>>=◌, key_count, has, where_there, text_of, count_of, flag_of, retry_of, each_of, list_of}
 use Rattle.relay_script.specs.declared.rule.Rule.{Rule}
 
--- a peer without where it lies in memory: its name, what its link gives and takes, and the mark of
--- the fault that is answered in place of the link, where there is one
+-- a peer without where it lies in memory: its name, what its link gives and takes, the mark of the
+-- fault that is answered in place of the link, where there is one, and whether the link is handed
+-- out as used before, in place of the link that came back last to be kept and was not used again
+-- yet
 pub record PeerSpec : Type 0 where
   pub name : List ℕ
   pub read : List ReadItem
   pub write : List WriteItem
   pub connect : Option RetryType
+  pub again : Bool
 
 -- a script without where it lies in memory: what the client's link gives and takes, the peers in
 -- the order in which they are asked, how many requests are run at most, how many attempts and how
--- many turns each may take, the schedule over all of them, what the purger answers, and the rules on
--- their hooks
+-- many turns each may take, the schedule over all of them, what the purger answers, and the rules
+-- on their hooks
 pub record ScriptSpec : Type 0 where
   pub client : List ReadItem
   pub client_write : List WriteItem
@@ -50,8 +53,13 @@ pub record ScriptSpec : Type 0 where
   pub rules : List Rule
 
 abbrev pub peer_spec : PeerEntry → PeerSpec
-peer_spec p =
-    record { name = p.name; read = p.read.items; write = p.write.items; connect = p.connect }
+peer_spec p = record {
+  name = p.name;
+  read = p.read.items;
+  write = p.write.items;
+  connect = p.connect;
+  again = p.again;
+}
 
 abbrev pub peer_specs : List PeerEntry → List PeerSpec
 peer_specs peers = map peer_spec peers
@@ -193,26 +201,33 @@ abbrev pub connect_of : Data → Option (Option RetryType)
 connect_of value =
     where_there (get (codes "connect") value) (λ mark. option_map Some (retry_of mark)) (Some None)
 
--- a peer of that name: its `read` and `write`, each of them empty where it is not there, and its
--- `connect` or none
+-- what is at `again`: whether the peer's link is one that is used again; it is not where there is
+-- no such key
+abbrev pub again_of : Data → Option Bool
+again_of value = where_there (get (codes "again") value) flag_of (Some false)
+
+-- a peer of that name: its `read` and `write`, each of them empty where it is not there, its
+-- `connect` or none, and whether its link is used again
 abbrev pub named_peer : Data → List ℕ → Option PeerSpec
 named_peer value name =
     where_there (get (codes "read") value) items_of (Some []) >>= (λ read.
     writes_at (codes "write") value >>= (λ write.
-    option_map (λ connect. record {
+    connect_of value >>= (λ connect.
+    option_map (λ again. record {
       name = name;
       read = read;
       write = write;
       connect = connect;
-    }) (connect_of value)))
+      again = again;
+    }) (again_of value))))
 
 -- how many keys of a peer an object has
 abbrev pub peer_keys : Data → ℕ
 peer_keys value =
     has (codes "name") value + has (codes "read") value + has (codes "write") value
-    + has (codes "connect") value
+    + has (codes "connect") value + has (codes "again") value
 
--- a peer: an object with `name`, and each of `read`, `write` and `connect` or not
+-- a peer: an object with `name`, and each of `read`, `write`, `connect` and `again` or not
 abbrev pub peer_of : Data → Option PeerSpec
 peer_of value =
     if key_count value == peer_keys value

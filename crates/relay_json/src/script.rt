@@ -4,12 +4,12 @@ ghost use Rattle.std.specs.Prelude.{◌≡◌, ◌≤◌, IfOk, is_some, codes, 
 ghost use Rattle.hex.specs.Hex.{decode_of};
 ghost use Rattle.serde_json.specs.Find.{get};
 ghost use Rattle.serde_json.specs.View.{view, items_view};
-ghost use Rattle.relay_json.specs.Script.{script_spec, reads_script, reads_value, script_of, link_keys, peer_spec, peer_specs, peer_keys, peer_of, peers_in, peers_of, named_peer, connect_of, limit_of, requests_of, retries_of, items_of, write_items_of, writes_at, item_of, write_item_of, item_at_key, write_item_at_key, client_script, script_keys, turns_of, purge_of, answer_of, found_answer, answer_so, branch_of, branches_of, schedule_of, take_item, text_item, spelt, hex_item, wait_item, after_item, end_item, read_kind, write_kind, mark_of, fault_of};
+ghost use Rattle.relay_json.specs.Script.{script_spec, reads_script, reads_value, script_of, link_keys, peer_spec, peer_specs, peer_keys, peer_of, peers_in, peers_of, named_peer, connect_of, again_of, limit_of, requests_of, retries_of, items_of, write_items_of, writes_at, item_of, write_item_of, item_at_key, write_item_at_key, client_script, script_keys, turns_of, purge_of, answer_of, found_answer, answer_so, branch_of, branches_of, schedule_of, take_item, text_item, spelt, hex_item, wait_item, after_item, end_item, read_kind, write_kind, mark_of, fault_of};
 ghost use Rattle.relay_json.specs.Values.{Reads, each_of};
 
 use crate::retries::Retries;
 use crate::rules::rules;
-use crate::values::{count, has, key_count, required, retry, text};
+use crate::values::{count, flag, has, key_count, required, retry, text};
 use bytes::Bytes;
 use hex::FromHexError;
 use relay_links::{Branch, ReadItem, WriteItem};
@@ -33,14 +33,16 @@ const PURGE_FAULT: Fault = Fault {
 /// How many peers a script has at most, how many requests, and how many attempts each.
 const LIMIT: usize = 1_024;
 
-/// A peer of a script: its name, what its link gives and takes, and the mark of the fault that is
-/// answered in place of the link, where there is one.
+/// A peer of a script: its name, what its link gives and takes, the mark of the fault that is
+/// answered in place of the link, where there is one, and whether the link is handed out as used
+/// before, in place of the link that came back last to be kept and was not used again yet.
 #[derive(Drop)]
 pub struct PeerEntry {
     pub name: Bytes,
     pub read: Vec<ReadItem>,
     pub write: Vec<WriteItem>,
     pub connect: Option<RetryType>,
+    pub again: bool,
 }
 
 /// A script: what the client's link gives and takes, the peers in the order in which they are
@@ -374,7 +376,11 @@ fn peer(alloc: Global, value: &Value) -> Result<PeerEntry, ScriptError>
 fn peer_keys(value: &Value) -> usize
     ensures { result ≡ peer_keys (view value.now) }
 {
-    has(value, "name") + has(value, "read") + has(value, "write") + has(value, "connect")
+    has(value, "name")
+        + has(value, "read")
+        + has(value, "write")
+        + has(value, "connect")
+        + has(value, "again")
 }
 
 /// The peer of that name that a value is.
@@ -387,11 +393,13 @@ fn named_peer(alloc: Global, value: &Value, name: Bytes) -> Result<PeerEntry, Sc
     };
     let write = writes_at(alloc, value, "write")?;
     let connect = connect(value)?;
+    let again = again(value)?;
     Ok(PeerEntry {
         name,
         read,
         write,
         connect,
+        again,
     })
 }
 
@@ -402,6 +410,16 @@ fn connect(value: &Value) -> Result<Option<RetryType>, ScriptError>
     match value.get("connect") {
         Some(mark) => Ok(Some(retry(mark)?)),
         None => Ok(None),
+    }
+}
+
+/// Whether a peer's link is one that is used again; it is not where there is no such key.
+fn again(value: &Value) -> Result<bool, ScriptError>
+    ensures { Reads (λ again. again) result (again_of (view value.now)) }
+{
+    match value.get("again") {
+        Some(on) => flag(on),
+        None => Ok(false),
     }
 }
 

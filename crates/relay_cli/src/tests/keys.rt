@@ -1,5 +1,5 @@
-//! What a script is read as where no report shows it: its turns, each branch of its schedule, and
-//! how many peers, requests and attempts it may have.
+//! What a script is read as where no report shows it: its turns, each branch of its schedule, which
+//! links are used again, and how many peers, requests and attempts it may have.
 use super::support::repeated;
 use relay_json::{ScriptError, read_script};
 use relay_links::{BRANCHES, Branch};
@@ -34,6 +34,34 @@ fn reads_its_turns_and_each_branch_by_its_name(rt: HostRuntime) {
     let again = [Branch::DownRead, Branch::UpTake, Branch::DownRead];
     assert!(rt; spells(alloc, AGAIN, 1_000_000, &again));
     assert!(rt; spells(alloc, FULL, 7, &[Branch::UpRead]));
+}
+
+/// Whether the link of a peer with these further keys is used again; none where it is refused.
+fn again(alloc: Global, keys: &str) -> Result<Option<bool>, AllocError> {
+    let text = format!(in alloc; "{{\"client\":[],\"peers\":[{{\"name\":\"a\"{keys}}}]}}")?;
+    match read_script(alloc, text.as_bytes()) {
+        Ok(script) => Ok(script.peers.first().map(|peer| peer.again)),
+        Err(ScriptError::Refused | ScriptError::HookNotCalled) => Ok(None),
+        Err(ScriptError::OutOfMemory) => Err(AllocError),
+    }
+}
+
+/// Further keys of a peer, and what its `again` is read as.
+const USED: [(&str, Option<bool>); 6] = [
+    ("", Some(false)),
+    (",\"again\":false", Some(false)),
+    (",\"again\":true", Some(true)),
+    (",\"again\":true,\"connect\":\"reused\"", Some(true)),
+    (",\"again\":\"reused\"", None),
+    (",\"again\":1", None),
+];
+
+#[test]
+fn reads_which_links_are_used_again(rt: HostRuntime) -> Result<(), AllocError> {
+    for (keys, wanted) in USED {
+        assert!(rt; again(rt.alloc(), keys)? == wanted, "a peer{keys}");
+    }
+    Ok(())
 }
 
 /// How many peers, requests and attempts a script has of so many peers and these further keys; none

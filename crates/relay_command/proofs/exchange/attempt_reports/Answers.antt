@@ -4,8 +4,8 @@ use Rattle.std.proofs.Common.{◌≡◌, ◌+◌, ◌∷◌, [], ◌++◌, ◌�
 use Rattle.std.specs.List.{slice_get}
 use Rattle.std.proofs.lemmas.List.{drop-drop}
 use Rattle.std.proofs.lemmas.Option.{slice_get_within}
-use Rattle.relay_links.specs.declared.connector.Returned.{Returned}
-use Rattle.relay_links.specs.declared.script_link.ScriptLink.{ScriptLink}
+use Rattle.relay_connector.specs.declared.connector.Returned.{Returned}
+use Rattle.relay_connector.specs.ScriptConnector.{AnyScript}
 use Rattle.relay_command.specs.Exchange.{attempt_report, attempt_reports, first_name, left_by, sent_by, sents_of, StartWithin}
 use Rattle.relay_command.specs.declared.report.AttemptReport.{AttemptReport}
 use Rattle.relay_command.proofs.ExchangeLemmas.{reports_more, sents_left, start_left}
@@ -37,7 +37,7 @@ loop-attempt-preserved c =
     c.in_ok-push.ensures.items
     ∙ ap (λ (r : AttemptReport). before.items ++ r ∷ []) report in
     let left : sents_of c.in_ok-sent.behind.now ≡ left_by a.fault sents =
-    ap (λ (rs : List (Returned ScriptLink)). sents_of rs) taken.1 ∙ sents_left a.fault links in (
+    ap (λ (rs : List (Returned AnyScript)). sents_of rs) taken.1 ∙ sents_left a.fault links in (
       omega (arith, len, slice_get_within attempts n a here),
       ap (λ (k : ℕ). c.push.new.self.items
           ++ attempt_reports c.take_name.new.names.items (sents_of c.in_ok-sent.behind.now)
@@ -55,6 +55,6 @@ loop-attempt-preserved c =
           ∙ ap (λ (ns : List (List ℕ)). drop 1 ns) c.loop-attempt.invariant.2
           ∙ drop-drop 1 n c.args.names.now.items
           ∙ ap (λ (k : ℕ). drop k c.args.names.now.items) (sym len),
-      subst (λ (rs : List (Returned ScriptLink)). StartWithin rs) (sym taken.1)
+      subst (λ (rs : List (Returned AnyScript)). StartWithin rs) (sym taken.1)
           (start_left a.fault links c.loop-attempt.invariant.3),
     )

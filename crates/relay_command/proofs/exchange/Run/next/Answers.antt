@@ -3,10 +3,10 @@ use Rattle.std.proofs.Common.{◌≡◌, ◌≢◌, ◌∙◌, List, sym, subst,
 use Rattle.std.specs.List.{slice_range}
 use Rattle.std.proofs.lemmas.Option.{same_Some}
 use Rattle.std.proofs.lemmas.Result.{IfOk-weaker}
-use Rattle.relay_links.specs.ScriptEntries.{links_returned}
-use Rattle.relay_links.specs.declared.connector.Returned.{Returned}
-use Rattle.relay_links.specs.declared.script_connector.ScriptConnector.{ScriptConnector}
-use Rattle.relay_links.specs.declared.script_link.ScriptLink.{ScriptLink}
+use Rattle.relay_connector.specs.ScriptEntries.{links_returned}
+use Rattle.relay_connector.specs.declared.connector.Returned.{Returned}
+use Rattle.relay_connector.specs.declared.script_connector.ScriptConnector.{ScriptConnector}
+use Rattle.relay_connector.specs.ScriptConnector.{AnyScript}
 use Rattle.relay_links.specs.declared.memory_purger.MemoryPurger.{MemoryPurger}
 use Rattle.relay_request.specs.declared.outcome.Outcome.TheVariants.{OutOfMemory}
 use Rattle.relay_proxy.specs.declared.proxy.HttpProxy.{HttpProxy}
@@ -25,7 +25,7 @@ request_report-requires c =
     c.returned-back.ensures ∙ ap links_returned c.connector.ensures in
     let has : behind ≡ links_returned c.process_new_http-processed.new.self.connector =
     c.returned.ensures ∙ ap links_returned c.connector-2.ensures in
-    subst (λ (rs : List (Returned ScriptLink)). StartWithin rs)
+    subst (λ (rs : List (Returned AnyScript)). StartWithin rs)
     (sym (range_end behind (length before) ∙ rw (had, has) refl))
     (back_start _ _ (links_returned c.args.self.now.proxy.connector)
     (links_returned c.process_new_http-processed.new.self.connector) _ _ _ _ _ _ _
