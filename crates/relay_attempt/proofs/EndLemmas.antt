@@ -30,7 +30,7 @@ use Rattle.relay_session.specs.TaskWire.{first_refusal, or_later, refusal, wire}
 use Rattle.relay_session.proofs.WireSteps.{first_refusal-append}
 use Rattle.relay_core.specs.Moves.{SoFar, Finishes, HasReason, Refused, Unended}
 use Rattle.relay_core.specs.Table as core
-use Rattle.relay_core.specs.declared.step.UpKind.{UpKind}
+use Rattle.relay_links.specs.declared.link.UpKind.{UpKind}
 use Rattle.relay_core.proofs.BoolLemmas.{and_right, and_both, or_left, clash, decide, not_false}
 use Rattle.relay_core.proofs.TaskLemmas.{any_left}
 use Rattle.relay_core.specs.Past.{Origin, DownPast, UpPast}

@@ -17,8 +17,8 @@ use Rattle.relay_links.specs.declared.link.Put.TheVariants as put
 use Rattle.relay_core.specs.declared.piece.Piece.{Piece}
 use Rattle.relay_core.specs.declared.step.Step.{Step}
 use Rattle.relay_core.specs.declared.step.Step.TheVariants as step
-use Rattle.relay_core.specs.declared.step.UpKind.{UpKind}
-use Rattle.relay_core.specs.declared.step.UpKind.TheVariants as kind
+use Rattle.relay_links.specs.declared.link.UpKind.{UpKind}
+use Rattle.relay_links.specs.declared.link.UpKind.TheVariants as kind
 use Rattle.relay_core.specs.declared.told.Told.{Told}
 use Rattle.relay_core.specs.declared.duplex.Duplex.{Duplex}
 use Rattle.relay_core.specs.Batch.{batch_of, rest_of}

@@ -19,8 +19,8 @@ use Rattle.relay_core.specs.declared.duplex.Duplex.{Duplex}
 use Rattle.relay_core.specs.declared.piece.Piece.{Piece}
 use Rattle.relay_core.specs.declared.step.Step.{Step}
 use Rattle.relay_core.specs.declared.step.Step.TheVariants as step
-use Rattle.relay_core.specs.declared.step.UpKind.{UpKind}
-use Rattle.relay_core.specs.declared.step.UpKind.TheVariants as kind
+use Rattle.relay_links.specs.declared.link.UpKind.{UpKind}
+use Rattle.relay_links.specs.declared.link.UpKind.TheVariants as kind
 use Rattle.relay_core.specs.Causes.{says_failed, says_finished}
 use Rattle.relay_core.specs.Counts.{Adds}
 use Rattle.relay_core.specs.Down.{DownState, ReadsPiece}

@@ -23,8 +23,8 @@ use Rattle.relay_core.specs.declared.pipe_state.PipeState.{PipeState}
 use Rattle.relay_core.specs.declared.pipe_state.PipeState.TheVariants as word
 use Rattle.relay_core.specs.declared.step.Step.{Step}
 use Rattle.relay_core.specs.declared.step.Step.TheVariants as step
-use Rattle.relay_core.specs.declared.step.UpKind.{UpKind}
-use Rattle.relay_core.specs.declared.step.UpKind.TheVariants as kind
+use Rattle.relay_links.specs.declared.link.UpKind.{UpKind}
+use Rattle.relay_links.specs.declared.link.UpKind.TheVariants as kind
 use Rattle.relay_core.specs.Down.{DownState, may_read, accepts}
 use Rattle.relay_core.specs.Pipe.{with_task, is_empty, has_room}
 use Rattle.relay_core.specs.Piece.{put_of}

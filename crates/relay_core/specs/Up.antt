@@ -9,7 +9,7 @@ use Rattle.relay_tasks.specs.declared.took.Took.{Took}
 use Rattle.relay_tasks.specs.declared.took.Took.TheVariants as took
 use Rattle.relay_links.specs.declared.link.Put.{Put}
 use Rattle.relay_links.specs.declared.link.Put.TheVariants as put
-use Rattle.relay_core.specs.declared.step.UpKind.{UpKind}
+use Rattle.relay_links.specs.declared.link.UpKind.{UpKind}
 use Rattle.relay_core.specs.declared.told.Told.{Told}
 use Rattle.relay_core.specs.Pipe.{is_failure}
 use Rattle.relay_core.specs.Told.{paused, failed, fault_of, written}

@@ -10,9 +10,8 @@ ghost use Rattle.relay_core.specs.Uses.{PutsOrCalls, ReadUses, WriteUses};
 ghost use Rattle.relay_core.specs.Past.{Origin, DownPast, GaveBytes, DownGoes, BatchGoes, put_in, closing_in, error_of_took, error_of_put, error_of_result};
 
 use crate::piece::Piece;
-use crate::step::UpKind;
 use crate::told::Told;
-use relay_links::Put;
+use relay_links::{Put, UpKind};
 use relay_tasks::{Pause, Result, TaskList, Took};
 
 /// The client's side: it gives pieces of the request, filtered, and takes the tasks of the

@@ -27,9 +27,9 @@ use crate::piece::Piece;
 use crate::pipe::{PIPE_PLACES, Pipe};
 use crate::pipe_state::PipeState;
 use crate::response_state::ResponseStateMachine;
-use crate::step::{Step, UpKind};
+use crate::step::Step;
 use crate::up::Up;
-use relay_links::{BRANCHES, Branch, BranchSet, Schedule};
+use relay_links::{BRANCHES, Branch, BranchSet, Schedule, UpKind};
 use relay_tasks::{Error, Pause};
 use std::alloc::Global;
 

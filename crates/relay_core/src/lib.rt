@@ -22,6 +22,6 @@ pub use piece::Piece;
 pub use pipe::{PIPE_PLACES, Pipe};
 pub use pipe_state::PipeState;
 pub use response_state::ResponseStateMachine;
-pub use step::{Step, UpKind};
+pub use step::Step;
 pub use told::Told;
 pub use up::Up;

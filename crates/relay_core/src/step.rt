@@ -2,14 +2,6 @@
 
 use relay_tasks::{Fail, Pause};
 
-/// Which kind of upstream a duplex serves.
-#[derive(Clone, Copy, Debug, PartialEq, Eq)]
-pub enum UpKind {
-    H1,
-    H2,
-    Custom,
-}
-
 /// What one step of a duplex did.
 #[derive(Clone, Copy, Debug, PartialEq, Eq)]
 pub enum Step {

@@ -13,9 +13,8 @@ ghost use Rattle.relay_core.specs.Past.{Origin, UpPast, GaveBytes, UpGoes, task_
 ghost use Rattle.relay_core.specs.Up.{UpState, ReadsTask, TakesPiece, Writes};
 ghost use Rattle.relay_core.specs.Uses.{IsUsed, ReadUses, WriteUses};
 
-use crate::step::UpKind;
 use crate::told::Told;
-use relay_links::Put;
+use relay_links::{Put, UpKind};
 use relay_tasks::{HttpTask, Pause, Result, Took};
 
 /// The upstream's side: it gives the tasks of the response, and takes the pieces of the request. It

@@ -12,9 +12,9 @@ ghost use Rattle.relay_core.specs.Table.{failed, with_send_error, after_up_write
 
 use crate::duplex::Duplex;
 use crate::pipe_state::PipeState;
-use crate::step::{Step, UpKind};
+use crate::step::Step;
 use crate::up::Up;
-use relay_links::Put;
+use relay_links::{Put, UpKind};
 use relay_tasks::{Error, Fail, HttpTask, Pause, Result, Took};
 
 impl Duplex {

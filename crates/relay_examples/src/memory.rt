@@ -2,12 +2,10 @@
 
 use crate::CONF;
 use bytes::Bytes;
+use relay_connector::{AnyScript, PeerScript, ScriptConnector, Upstream};
 use relay_h1::Connection;
 use relay_hooks::ProxyHttp;
-use relay_links::{
-    CountDelay, MemoryPurger, PeerScript, ReadItem, RoundRobin, ScriptConnector, ScriptLink,
-    ShutdownAt,
-};
+use relay_links::{CountDelay, MemoryPurger, ReadItem, RoundRobin, ScriptLink, ShutdownAt};
 use relay_proxy::{HttpProxy, Outside, RunRecord};
 use relay_tasks::{Purged, RetryType};
 use std::alloc::{AllocError, Global};
@@ -63,7 +61,7 @@ pub fn relay_each<R: Print, SV: ProxyHttp + Drop>(
         println!(rt; "written {:?}", text_of(client.link().taken()))?;
     }
     for returned in proxy.connector().returned() {
-        println!(rt; "sent {:?}", text_of(returned.link.taken()))?;
+        println!(rt; "sent {:?}", text_of(sent_over(&returned.link)))?;
     }
     Ok(())
 }
@@ -109,9 +107,18 @@ fn peer_script(
 ) -> Result<PeerScript, AllocError> {
     Ok(PeerScript {
         name: Bytes::from_static(b"a"),
-        link: link_of(alloc, response)?,
+        link: Upstream::H1(link_of(alloc, response)?),
         connect,
+        again: false,
     })
+}
+
+/// The bytes that were sent over a link: none, where it carries messages.
+fn sent_over(link: &AnyScript) -> &[u8] {
+    match link {
+        Upstream::H1(link) => link.taken(),
+        Upstream::H2(_) | Upstream::Custom(_) => &[],
+    }
 }
 
 /// The bytes as a text.

@@ -25,7 +25,7 @@ use Rattle.relay_core.specs.Up.{UpState}
 use Rattle.relay_core.specs.declared.duplex.Duplex.{Duplex}
 use Rattle.relay_core.specs.declared.step.Step.{Step}
 use Rattle.relay_core.specs.declared.step.Step.TheVariants as step
-use Rattle.relay_core.specs.declared.step.UpKind.{UpKind}
+use Rattle.relay_links.specs.declared.link.UpKind.{UpKind}
 use Rattle.relay_exchange.specs.Exchange.{Begins, IsUnderWay, ComesTo, Turns}
 
 -- a write to the upstream finishes nothing

@@ -9,9 +9,9 @@ ghost use Rattle.relay_filters.specs.Hooked.{BlamesOver, HookedPast, InnerPast, 
 use crate::lent::{pass_piece, pass_tasks};
 use crate::request::either;
 use crate::rested::{Rested, still_stood};
-use relay_core::{Down, Piece, Told, UpKind};
+use relay_core::{Down, Piece, Told};
 use relay_hooks::{ProxyHttp, Session};
-use relay_links::Put;
+use relay_links::{Put, UpKind};
 use relay_session::Front;
 use relay_tasks::{ErrorSource, Fail, Result, TaskList, Took};
 

@@ -51,7 +51,7 @@ use Rattle.relay_hooked.specs.Order as order
 use Rattle.relay_attempt.proofs.ServeLemmas.{all_keep, ended_stands, kept_reading, kept_writing}
 use Rattle.relay_filters.specs.Request.{ended_by, passed, pieces_in}
 use Rattle.relay_core.specs.Table as core
-use Rattle.relay_core.specs.declared.step.UpKind.{UpKind}
+use Rattle.relay_links.specs.declared.link.UpKind.{UpKind}
 use Rattle.relay_links.specs.Count.{Rose}
 use Rattle.relay_hooked.proofs.PassedLemmas.{passed_ends}
 use Rattle.relay_hooked.specs.Sides.{Behind, filtering, hooked_core, hooked_state, keeps_link}

@@ -1,5 +1,4 @@
 pub mod Branch
-pub mod Connector
 pub mod Count
 pub mod CountDelay
 pub mod FailingCalls
@@ -12,8 +11,6 @@ pub mod Poller
 pub mod Purger
 pub mod ReadScript
 pub mod RoundRobin
-pub mod ScriptConnector
-pub mod ScriptEntries
 pub mod ScriptLink
 pub mod ShutdownAt
 pub mod Sink

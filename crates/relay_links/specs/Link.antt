@@ -8,6 +8,7 @@ use Rattle.relay_links.specs.declared.link.Got.{Got}
 use Rattle.relay_links.specs.declared.link.Got.TheVariants as got
 use Rattle.relay_links.specs.declared.link.Put.{Put}
 use Rattle.relay_links.specs.declared.link.Put.TheVariants as put
+use Rattle.relay_links.specs.declared.link.UpKind.{UpKind}
 use Rattle.relay_links.specs.Count.{last_count, up, Rose}
 use Rattle.relay_links.specs.Told.{more, told_length}
 
@@ -32,9 +33,11 @@ pub record LinkItems : Type 0 where
   pub read : List ReadItem
   pub write : List WriteItem
 
--- a link as its connector handed it out: the items by which it answers, where it has such, the
--- lengths of its lists (0 where not told), its counts, and whether it had been used before
+-- a link as its connector handed it out: what it carries, the items by which it answers, where it
+-- has such, the lengths of its lists (0 where not told), its counts, and whether it had been used
+-- before
 pub record LinkStart : Type 0 where
+  pub kind : UpKind
   pub items : Option LinkItems
   pub given : ℕ
   pub taken : ℕ

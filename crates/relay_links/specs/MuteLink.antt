@@ -1,5 +1,6 @@
 -- A link that tells no content.
 use Rattle.std.specs.Prelude.{false, None}
+use Rattle.relay_links.specs.declared.link.UpKind.TheVariants.{H1}
 use Rattle.relay_links.specs.declared.mute_link.MuteLink.{MuteLink}
 use Rattle.relay_links.specs.Link.{LinkState, LinkStart}
 
@@ -21,6 +22,7 @@ mute_state link = record {
 -- the link as it was made
 abbrev pub mute_start : MuteLink → LinkStart
 mute_start link = record {
+  kind = H1;
   items = None;
   given = 0;
   taken = 0;

@@ -3,6 +3,7 @@ use Rattle.std.specs.Prelude.{◌≡◌, ℕ, false, min, List, [], ◌++◌, le
 use Rattle.relay_links.specs.declared.link.Got.{Got}
 use Rattle.relay_links.specs.declared.link.Put.{Put}
 use Rattle.relay_links.specs.declared.link.Put.TheVariants as put
+use Rattle.relay_links.specs.declared.link.UpKind.TheVariants.{H1}
 use Rattle.relay_links.specs.declared.read_script.ReadItem.{ReadItem}
 use Rattle.relay_links.specs.declared.write_script.WriteItem.{WriteItem}
 use Rattle.relay_links.specs.declared.write_script.WriteTurn.{WriteTurn}
@@ -30,6 +31,7 @@ script_state link = record {
 -- the link as it was handed out: the lengths of its lists at the places that its scripts had then
 abbrev pub script_start : ScriptLink → LinkStart
 script_start link = record {
+  kind = H1;
   items = Some (record { read = link.reads.items.items; write = link.writes.items.items });
   given = length (reads.given_of link.reads.items.items link.start.read_at link.start.read_done);
   taken = link.start.taken;

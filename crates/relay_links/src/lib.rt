@@ -4,7 +4,6 @@
 
 mod branch;
 mod branch_set;
-mod connector;
 mod count_delay;
 mod delay;
 mod failing_calls;
@@ -18,7 +17,6 @@ mod read_script;
 mod room;
 mod round_robin;
 mod schedule;
-mod script_connector;
 mod script_fault;
 mod script_link;
 mod shutdown_at;
@@ -33,10 +31,9 @@ mod write_script;
 
 pub use branch::{BRANCHES, Branch};
 pub use branch_set::BranchSet;
-pub use connector::{Connector, Returned};
 pub use count_delay::CountDelay;
 pub use delay::Delay;
-pub use link::{ByteLink, Got, Put};
+pub use link::{ByteLink, Got, Put, UpKind};
 pub use list_schedule::ListSchedule;
 pub use memory_purger::MemoryPurger;
 pub use mute_link::MuteLink;
@@ -45,7 +42,6 @@ pub use purger::{PurgeCall, Purger};
 pub use read_script::{ReadItem, ReadScript};
 pub use round_robin::RoundRobin;
 pub use schedule::Schedule;
-pub use script_connector::{PeerScript, ScriptConnector};
 pub use script_link::{ScriptLink, ScriptStart};
 pub use shutdown_at::ShutdownAt;
 pub use sink::{Sink, Wrote};

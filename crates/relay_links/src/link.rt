@@ -4,6 +4,15 @@ ghost use Rattle.relay_links.specs.Link.{LinkState, LinkStart, Reads, Writes};
 
 use relay_tasks::Fault;
 
+/// What an upstream link carries: the bytes of HTTP/1, or whole messages, as HTTP/2 and custom
+/// protocols have them.
+#[derive(Clone, Copy, Debug, PartialEq, Eq)]
+pub enum UpKind {
+    H1,
+    H2,
+    Custom,
+}
+
 /// The answer of a read of a link. `Bytes` has a number from 1 to the length of the room.
 #[derive(Clone, Copy, Debug, PartialEq, Eq)]
 pub enum Got {

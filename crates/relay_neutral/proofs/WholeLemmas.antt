@@ -8,6 +8,7 @@ use Rattle.std.proofs.Common.{◌≡◌, ◌⊎◌, Bool, true, false, List, [],
 use Rattle.std.specs.Prelude.{All, Ok, Err}
 use Rattle.std.proofs.lemmas.List.Elements.{All-append, All-cons, All-nil}
 use Rattle.http.specs.declared.version.TheConstants.Version.{HTTP_11}
+use Rattle.relay_connector.specs.Upstream.{SpeaksBytes}
 use Rattle.relay_tasks.specs.Head.{RequestHead}
 use Rattle.relay_tasks.specs.declared.Error.{Error}
 use Rattle.relay_tasks.specs.declared.hook.Hook.TheVariants as hook
@@ -98,18 +99,22 @@ neutral_agrees called head sent framing sends all framed =
     sends_agrees called head sent framing sends (before_same sends.filters all)
     (filtered_same sends.filters all) framed
 
--- a head that can be sent is not refused
-pub neutral_refuses : (called : List LogEntry) (head : RequestHead) (keep : Bool) (e : Error)
-    → RefusesToSend called head keep e → All (IsNeutral head) called → CanBeSent head → ⊥
-neutral_refuses called head keep e (RefusesToSend.untold fails kept) all can =
+-- a head that can be sent is not refused over a link of bytes
+pub neutral_refuses : (called : List LogEntry) (start : LinkStart) (head : RequestHead)
+    (keep : Bool) (e : Error) → RefusesToSend called start head keep e → SpeaksBytes start
+    → All (IsNeutral head) called → CanBeSent head → ⊥
+neutral_refuses called start head keep e (RefusesToSend.unspoken silent is kept) speaks all can =
+    silent speaks
+neutral_refuses called start head keep e (RefusesToSend.untold fails kept) speaks all can =
     never_fails hook.ConnectedToUpstream called e fails all
-neutral_refuses called head keep e (RefusesToSend.unfiltered fails kept) all can =
+neutral_refuses called start head keep e (RefusesToSend.unfiltered _ fails kept) speaks all can =
     never_fails hook.UpstreamRequestFilter called e fails all
-neutral_refuses called head keep e (RefusesToSend.unpassed (inl fails) kept) all can =
+neutral_refuses called start head keep e (RefusesToSend.unpassed _ (inl fails) kept) speaks all can =
     never_fails hook.RequestBodyFilter called e fails all
-neutral_refuses called head keep e (RefusesToSend.unpassed (inr fails) kept) all can =
+neutral_refuses called start head keep e (RefusesToSend.unpassed _ (inr fails) kept) speaks all can =
     never_fails hook.ModuleRequestBody called e fails all
-neutral_refuses called head keep e (RefusesToSend.unsettled filtered f settles kept) all can =
+neutral_refuses called start head keep e (RefusesToSend.unsettled _ filtered f settles kept) speaks
+    all can =
     let ready : f.ready ≡ record head { version = HTTP_11 } =
     readied head f.ready
     (subst (λ (h : RequestHead). ReadyHead over.H1 false h (Ok f.ready)) (before_same f all)
@@ -151,13 +156,14 @@ module _ {L : Type 0} (state : L → LinkState) (start_at : L → LinkStart) whe
   -- a valid one is served without an error, or unfinished
   pub whole : NeutralIsWhole state start_at
   whole s w before after told_before told_after had has client turns processed run head all
-      relayable can asks answers faultless =
+      relayable can asks speaks answers faultless =
       let t = behind s run.legs in
       given_whole processed.history.log run.came processed.outcome run.given
       (run.exact.whole head relayable
       (λ told ahead. neutral_passes t run.passed w told ahead all)
       (left_all head t.called all)
-      (λ keep e refuses. neutral_refuses t.called head keep e refuses all can)
+      (λ r keep e one refuses. neutral_refuses t.called (start_at r.link) head keep e refuses
+      (speaks r one) all can)
       (λ sent sends. neutral_agrees t.called head sent asks.is_request.framing sends all
       asks.is_request.has.framed)
       asks (λ r sent one sends. answers r sent one sends) faultless)

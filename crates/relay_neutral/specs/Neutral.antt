@@ -10,9 +10,10 @@ use Rattle.relay_tasks.specs.declared.log.LogEntry.{LogEntry}
 use Rattle.relay_tasks.specs.declared.peer.Peer.{Peer}
 use Rattle.relay_hooks.specs.DefaultLaw.{IsDefault}
 use Rattle.relay_hooks.specs.Standing.{Standing}
-use Rattle.relay_links.specs.Connector.{Offer}
+use Rattle.relay_connector.specs.Connector.{Offer}
+use Rattle.relay_connector.specs.Upstream.{SpeaksBytes}
 use Rattle.relay_links.specs.Link.{LinkState, LinkStart}
-use Rattle.relay_links.specs.declared.Returned.{Returned}
+use Rattle.relay_connector.specs.declared.Returned.{Returned}
 use Rattle.relay_phases.specs.Order.{is_answer}
 use Rattle.relay_valid.specs.Valid.{AsksFor, AnswersWith}
 use Rattle.relay_request.specs.Exact.{IsFaultless, IsUnfinished, is_filter}
@@ -56,8 +57,9 @@ CanBeSent head = (e : Error)
 module _ {L : Type 0} (state : L → LinkState) (start_at : L → LinkStart) where
   -- a request whose calls changed nothing, whose client gave the front of a valid request of a form
   -- that is relayed and that can be sent, and then was still, and the peer of whose last attempt
-  -- gave the front of a valid response and ended only behind it, with no fault: it is served
-  -- without an error, or unfinished, also where turns or memory ran out in the hooks of its end
+  -- gave, over a link of bytes, the front of a valid response and ended only behind it, with no
+  -- fault: it is served without an error, or unfinished, also where turns or memory ran out in the
+  -- hooks of its end
   abbrev pub NeutralIsWhole : Type 0
   NeutralIsWhole = (s : Start) (w : World) (before after : Option (List (Returned L)))
       (told_before told_after : Option (List Fault)) (had has : Option (List Offer))
@@ -66,6 +68,7 @@ module _ {L : Type 0} (state : L → LinkState) (start_at : L → LinkStart) whe
       processed)
       → (head : RequestHead) → All (IsNeutral head) (behind s run.legs).called → IsRelayable head
       → CanBeSent head → AsksFor (origin_of (behind s run.legs) head head false) run.passed w.client
+      → ((r : Returned L) → run.own ≡ r ∷ [] → SpeaksBytes (start_at r.link))
       → ((r : Returned L) (sent : RequestHead) → run.own ≡ r ∷ []
       → Sends (behind s run.legs).called head sent
       → AnswersWith sent.method false run.passed (state r.link))

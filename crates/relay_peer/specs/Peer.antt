@@ -35,7 +35,7 @@ use Rattle.relay_core.specs.Moves.{EndsLast}
 use Rattle.relay_core.specs.Past.{Origin, UpPast}
 use Rattle.relay_core.specs.Told.{fault_of}
 use Rattle.relay_core.specs.Up.{UpState}
-use Rattle.relay_core.specs.declared.step.UpKind.TheVariants.{H1}
+use Rattle.relay_links.specs.declared.link.UpKind.TheVariants.{H1}
 use Rattle.relay_peer.specs.declared.peer_side.PeerSide.{PeerSide}
 use Rattle.relay_peer.specs.Faults.{HasAnswered, FailsOnce, TellsFaults}
 use Rattle.relay_peer.specs.Body.{IsFrontOf, bytes_of, body_of, sent_with, sent_as}

@@ -18,8 +18,8 @@ ghost use Rattle.relay_peer.specs.Peer.{IsPeerSide, PeerBlames, CutsTask, IsNew,
 
 use crate::h1_client::H1Client;
 use bytes::Bytes;
-use relay_core::{Told, Up, UpKind};
-use relay_links::{ByteLink, Put};
+use relay_core::{Told, Up};
+use relay_links::{ByteLink, Put, UpKind};
 use relay_tasks::{Context, Error, ErrorSource, Fail, HttpTask, RequestHeader, Result, Took};
 use std::alloc::Global;
 

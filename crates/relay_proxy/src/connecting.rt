@@ -4,7 +4,10 @@
 //! 9110, section 9.2.2): nothing of the request was sent then.
 ghost use Rattle.std.specs.Prelude.{◌≡◌, ◌⊎◌, ◌↔◌, ◌+◌, ◌≤◌, [], ◌∷◌, ◌++◌, length, ℕ, List, IsTrue, false};
 ghost use Rattle.std.specs.Global.{Box};
-ghost use Rattle.relay_links.specs.Connector.{IsConnectFault};
+ghost use Rattle.relay_connector.specs.declared.upstream.Upstream.{Upstream};
+ghost use Rattle.relay_tasks.specs.declared.ErrorSource.TheVariants as side;
+ghost use Rattle.relay_connector.specs.Connector.{IsConnectFault, handed};
+ghost use Rattle.relay_connector.specs.Upstream.{SpeaksBytes};
 ghost use Rattle.relay_links.specs.Count.{last_count, Rose};
 ghost use Rattle.relay_links.specs.Link.{LinkState, IsHandedOut};
 ghost use Rattle.relay_attempt.specs.Passed.{Passed};
@@ -14,6 +17,7 @@ ghost use Rattle.relay_request.specs.Calls.{CallsSoFar, CountsCalls, IsUnended, 
 ghost use Rattle.relay_request.specs.Taken.{TakesAfter};
 ghost use Rattle.relay_request.specs.Passed.{World, Start, opened_to};
 ghost use Rattle.relay_request.specs.Phases.{RunSoFar};
+ghost use Rattle.relay_request.specs.Sent.{unrelayed};
 ghost use Rattle.relay_request.specs.Refusals.{faults_before, faults_told};
 ghost use Rattle.relay_request.specs.Stock.{items_held};
 ghost use Rattle.relay_request.specs.Uses.{PhaseUses};
@@ -21,14 +25,15 @@ ghost use Rattle.relay_request.specs.Tries.{MayTry, tries_in, unlinked_record};
 ghost use Rattle.relay_request.specs.Turn.{world_with, DoesWork, is_over, is_end, links_held, Advances, HasCause};
 
 use crate::preparing::{closed, fail_ahead};
+use relay_connector::{Connector, LinkOf};
 use relay_hooks::{HttpModule, ProxyHttp};
-use relay_links::{ByteLink, Connector};
+use relay_links::ByteLink;
 use relay_request::{
     AttemptList, AttemptRecord, AttemptRoom, Calls, Lease, Next, Outcome, Phase, RunStep, Work,
     tell_link, treat_unlinked,
 };
 use relay_session::HttpSession;
-use relay_tasks::{Error, Fail, Fault, Peer};
+use relay_tasks::{Error, ErrorType, Fail, Fault, Peer};
 use std::alloc::Global;
 
 /// A request that ended without a link, when out of memory.
@@ -101,22 +106,27 @@ pub(crate) fn connect<SV: ProxyHttp, K: Connector>(
     context: SV::CTX,
     session: Box<HttpSession>,
     tries: AttemptList,
-) -> Next<K::Byte, SV::CTX>
+) -> Next<LinkOf<K>, SV::CTX>
     requires { is_calling calls.old.at ≡ false }
     ensures run { (s : Start) (p : Passed) (client : LinkState) (ahead : List ℕ) → s.most ≡ most
-        → CallsSoFar {L = K.Byte} (allowed_by (SV.allows app.now) SV.Modules.allows)
+        → CallsSoFar {L = Upstream K.Byte K.Message K.Custom} (allowed_by (SV.allows app.now)
+        SV.Modules.allows)
         (SV.mark_of app.now) calls.old (Phase.Connect context session tries)
-        → RunSoFar {C = SV.CTX} K.Byte.state K.Byte.start (opened_to s (log_of calls.old)) p
+        → RunSoFar {C = SV.CTX} ⟦<LinkOf<K> as ByteLink>⟧.state ⟦<LinkOf<K> as ByteLink>⟧.start
+        (opened_to s (log_of calls.old)) p
         (world_with client ahead (K.fault_count connector.old)) []
         (Phase.Connect context session tries)
-        → Advances {C = SV.CTX} K.Byte.state K.Byte.start (opened_to s (log_of calls.new))
+        → Advances {C = SV.CTX} ⟦<LinkOf<K> as ByteLink>⟧.state ⟦<LinkOf<K> as ByteLink>⟧.start
+        (opened_to s (log_of calls.new))
         (world_with client ahead (K.fault_count connector.new)) result.phase }
-    ensures calls { CallsSoFar {L = K.Byte} (allowed_by (SV.allows app.now) SV.Modules.allows)
+    ensures calls { CallsSoFar {L = Upstream K.Byte K.Message K.Custom} (allowed_by (SV.allows
+        app.now) SV.Modules.allows)
         (SV.mark_of app.now) calls.old (Phase.Connect context session tries)
-        → CallsSoFar {L = K.Byte} (allowed_by (SV.allows app.now) SV.Modules.allows)
+        → CallsSoFar {L = Upstream K.Byte K.Message K.Custom} (allowed_by (SV.allows app.now)
+        SV.Modules.allows)
         (SV.mark_of app.now) calls.new result.phase }
     ensures cause { (log : List _) (client : LinkState) (ahead : List ℕ)
-        → HasCause K.Byte.state K.Byte.start log
+        → HasCause ⟦<LinkOf<K> as ByteLink>⟧.state ⟦<LinkOf<K> as ByteLink>⟧.start log
         (world_with client ahead (K.fault_count connector.old))
         (world_with client ahead (K.fault_count connector.new))
         (Phase.Connect context session tries) result.phase result.step }
@@ -127,12 +137,14 @@ pub(crate) fn connect<SV: ProxyHttp, K: Connector>(
     ensures step { (result.step ≡ RunStep.Moved) ⊎ (result.step ≡ RunStep.Ended) }
     ensures over { is_over result.phase ≡ is_end result.step }
     ensures out { K.out connector.new
-        ≡ K.out connector.old + links_held K.Byte.state K.Byte.start result.phase }
+        ≡ K.out connector.old + links_held ⟦<LinkOf<K> as ByteLink>⟧.state
+        ⟦<LinkOf<K> as ByteLink>⟧.start result.phase }
     ensures returned { K.returned connector.new ≡ K.returned connector.old }
     // A link that was given was not asked yet.
-    ensures fresh { PhaseUses K.Byte.state K.Byte.start 0 [] result.phase }
+    ensures fresh { PhaseUses ⟦<LinkOf<K> as ByteLink>⟧.state ⟦<LinkOf<K> as ByteLink>⟧.start 0 []
+        result.phase }
     ensures asks { TakesAfter (faults_told tries) (faults_before [] result.phase)
-        (items_held K.Byte.start result.phase) (K.refusals connector.old)
+        (items_held ⟦<LinkOf<K> as ByteLink>⟧.start result.phase) (K.refusals connector.old)
         (K.refusals connector.new) (K.stock connector.old) (K.stock connector.new) }
     ensures faults { K.fault_count connector.old ≤ K.fault_count connector.new }
     ensures unended { IsUnended (log_of calls.old) → IsUnended (log_of calls.new) }
@@ -155,7 +167,8 @@ pub(crate) fn connect<SV: ProxyHttp, K: Connector>(
                 reused,
                 room,
             };
-            tell(app, calls, context, session, link, lease)
+            let speaks = link.carries_bytes();
+            tell(app, calls, context, session, link, lease, speaks)
         }
         Err(fault) => {
             let lacking = Lacking {
@@ -170,7 +183,8 @@ pub(crate) fn connect<SV: ProxyHttp, K: Connector>(
 }
 
 /// Tells the application of a link that was just handed out, behind which the head is made. Where
-/// it fails, the link is to go back, not kept, and the client is owed the answer to its error.
+/// it fails, or the link carries messages, over which nothing is relayed yet, the link is to go
+/// back, not kept, and the error is to be treated.
 fn tell<SV: ProxyHttp, L: ByteLink>(
     app: &SV,
     calls: &mut Calls<SV::Modules, SV::Kept, SV::CTX>,
@@ -178,6 +192,7 @@ fn tell<SV: ProxyHttp, L: ByteLink>(
     session: Box<HttpSession>,
     link: L,
     lease: Lease,
+    speaks: bool,
 ) -> Next<L, SV::CTX>
     ensures run { (s : Start) (p : Passed) (w : World)
         → CallsSoFar {L = L} (allowed_by (SV.allows app.now) SV.Modules.allows)
@@ -186,6 +201,7 @@ fn tell<SV: ProxyHttp, L: ByteLink>(
         (Phase.Connect context session (tries_in lease))
         → calls.old.at ≡ At.Named lease.peer → lease.recorded ≡ lease.peer
         → IsHandedOut (L.state link) (L.start link) lease.reused
+        → (IsTrue speaks ↔ SpeaksBytes (L.start link))
         → Advances L.state L.start (opened_to s (log_of calls.new)) w result.phase }
     ensures calls { calls.old.at ≡ At.Named lease.peer
         → CallsSoFar {L = L} (allowed_by (SV.allows app.now) SV.Modules.allows)
@@ -201,7 +217,7 @@ fn tell<SV: ProxyHttp, L: ByteLink>(
     ensures step { (result.step ≡ RunStep.Moved) ⊎ (result.step ≡ RunStep.Ended) }
     ensures over { is_over result.phase ≡ is_end result.step }
     ensures linked { links_held L.state L.start result.phase ≡ 1 }
-    ensures items { items_held L.start result.phase ≡ (L.start link).items ∷ [] }
+    ensures items { items_held L.start result.phase ≡ handed (L.start link) ∷ [] }
     ensures fresh { IsHandedOut (L.state link) (L.start link) lease.reused
         → PhaseUses L.state L.start 0 [] result.phase }
     ensures unended { IsUnended (log_of calls.old) → IsUnended (log_of calls.new) }
@@ -216,14 +232,22 @@ fn tell<SV: ProxyHttp, L: ByteLink>(
         &lease.peer,
         lease.reused,
     ) {
-        Ok(()) => Next {
+        Ok(()) if speaks => Next {
             phase: Phase::Prepare(context, session, link, lease),
             step: RunStep::Moved,
             work: Work::CALLED,
         },
+        Ok(()) => fail_ahead(context, session, link, lease, false, unspoken()),
         Err(Fail::Error(error)) => fail_ahead(context, session, link, lease, false, error),
         Err(Fail::OutOfMemory) => closed(link, lease, false, Outcome::OutOfMemory),
     }
+}
+
+/// The error of an attempt over a link that carries messages: nothing is relayed over one yet.
+fn unspoken() -> Error
+    ensures { result ≡ unrelayed side.Upstream }
+{
+    Error::new_up(ErrorType::Custom(1))
 }
 
 /// An attempt to which the connector gave no link, with that fault: the application treats its

@@ -1,6 +1,7 @@
 //! An attempt that failed: the application treats its error; and then another attempt follows, or
 //! the application answers the client for what it made of it (RFC 9110, sections 9.2.2 and 15).
 ghost use Rattle.std.specs.Prelude.{◌≡◌, ◌⊎◌, ◌↔◌, ◌+◌, ◌≤◌, List, [], ◌∷◌, length, ℕ, None, Some, true, false, IsTrue};
+ghost use Rattle.relay_connector.specs.Connector.{handed};
 ghost use Rattle.relay_tasks.specs.Error.{may_retry};
 ghost use Rattle.relay_session.specs.Session.{may_begin_again};
 ghost use Rattle.relay_attempt.specs.Passed.{Passed};
@@ -77,7 +78,7 @@ pub(crate) fn fail<SV: ProxyHttp, D: ByteLink, U: Drop, L: ByteLink>(
     ensures held { held_state L.state result.phase ≡ Some (L.state link) }
     ensures tries { attempts_in result.phase ≡ tries_in lease }
     ensures linked { links_held L.state L.start result.phase ≡ 1 }
-    ensures items { items_held L.start result.phase ≡ (L.start link).items ∷ [] }
+    ensures items { items_held L.start result.phase ≡ handed (L.start link) ∷ [] }
     ensures asked { (n : ℕ) → LinkUses L.state L.start n link
         → PhaseUses L.state L.start n [] result.phase }
 {
@@ -226,7 +227,7 @@ fn repeat<SV: ProxyHttp, L: ByteLink>(
     ensures held { held_state L.state result.phase ≡ Some (L.state link) }
     ensures tries { attempts_in result.phase ≡ tries_in lease }
     ensures linked { links_held L.state L.start result.phase ≡ 1 }
-    ensures items { items_held L.start result.phase ≡ (L.start link).items ∷ [] }
+    ensures items { items_held L.start result.phase ≡ handed (L.start link) ∷ [] }
     ensures asked { (n : ℕ) → LinkUses L.state L.start n link
         → PhaseUses L.state L.start n [] result.phase }
 {
@@ -277,7 +278,7 @@ fn treat_broken<SV: ProxyHttp, L: ByteLink>(
     ensures held { held_state L.state result.phase ≡ Some (L.state link) }
     ensures tries { attempts_in result.phase ≡ tries_in lease }
     ensures linked { links_held L.state L.start result.phase ≡ 1 }
-    ensures items { items_held L.start result.phase ≡ (L.start link).items ∷ [] }
+    ensures items { items_held L.start result.phase ≡ handed (L.start link) ∷ [] }
     ensures asked { (n : ℕ) → LinkUses L.state L.start n link
         → PhaseUses L.state L.start n [] result.phase }
     ensures unended { IsUnended (log_of calls.old) → IsUnended (log_of calls.new) }
@@ -340,7 +341,7 @@ fn answer_broken<SV: ProxyHttp, L: ByteLink>(
     ensures held { held_state L.state result.phase ≡ Some (L.state link) }
     ensures tries { attempts_in result.phase ≡ tries_in lease }
     ensures linked { links_held L.state L.start result.phase ≡ 1 }
-    ensures items { items_held L.start result.phase ≡ (L.start link).items ∷ [] }
+    ensures items { items_held L.start result.phase ≡ handed (L.start link) ∷ [] }
     ensures asked { (n : ℕ) → LinkUses L.state L.start n link
         → PhaseUses L.state L.start n [] result.phase }
 {
@@ -375,7 +376,7 @@ fn owe<M: HttpModule + Drop, K: Drop, L: ByteLink, C: Drop>(
     ensures held { held_state L.state result.phase ≡ Some (L.state link) }
     ensures tries { attempts_in result.phase ≡ tries_in lease }
     ensures linked { links_held L.state L.start result.phase ≡ 1 }
-    ensures items { items_held L.start result.phase ≡ (L.start link).items ∷ [] }
+    ensures items { items_held L.start result.phase ≡ handed (L.start link) ∷ [] }
     ensures asked { (n : ℕ) → LinkUses L.state L.start n link
         → PhaseUses L.state L.start n [] result.phase }
 {

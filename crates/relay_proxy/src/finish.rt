@@ -2,10 +2,12 @@
 ghost use Rattle.std.specs.Prelude.{◌≡◌, ◌+◌, ◌<◌, ◌≤◌, [], ◌∷◌, true};
 ghost use Rattle.relay_request.specs.Closing.{HandsBack, Settles, GivesLinkUp, Finishes};
 ghost use Rattle.relay_request.specs.Relaying.{is_closing};
-ghost use Rattle.relay_request.specs.Stock.{items_held, all_items};
+ghost use Rattle.relay_request.specs.Stock.{items_held, all_links};
+ghost use Rattle.relay_connector.specs.Connector.{handed};
 ghost use Rattle.relay_request.specs.Turn.{links_held, is_over};
 
-use relay_links::Connector;
+use relay_connector::{Connector, LinkOf};
+use relay_links::ByteLink;
 use relay_request::{Attempt, AttemptList, AttemptRecord, Ending, Lease, Outcome, Owed, Phase};
 use std::alloc::Global;
 use std::mem;
@@ -13,7 +15,7 @@ use std::mem;
 /// Hands a link back with that mark, and records its attempt. It takes no memory.
 fn release<K: Connector>(
     connector: &mut K,
-    link: K::Byte,
+    link: LinkOf<K>,
     lease: Lease,
     keep: bool,
     outcome: Outcome,
@@ -25,9 +27,9 @@ fn release<K: Connector>(
     ensures faults { K.fault_count connector.new ≡ K.fault_count connector.old }
     ensures refusals { K.refusals connector.new ≡ K.refusals connector.old }
     ensures offers { K.stock connector.new ≡ K.stock connector.old }
-    ensures stock { all_items K.Byte.start (K.returned connector.new) [] (K.stock connector.new)
-        ≡ all_items K.Byte.start (K.returned connector.old) ((K.Byte.start link).items ∷ [])
-        (K.stock connector.old) }
+    ensures links { all_links ⟦<LinkOf<K> as ByteLink>⟧.start (K.returned connector.new) []
+        ≡ all_links ⟦<LinkOf<K> as ByteLink>⟧.start (K.returned connector.old)
+        (handed (⟦<LinkOf<K> as ByteLink>⟧.start link) ∷ []) }
 {
     let Lease {
         peer,
@@ -47,20 +49,23 @@ fn release<K: Connector>(
 
 /// Ends a request that is to be closed: its link goes back. That of a failed attempt goes back too,
 /// and another one follows, or the client is given what it is owed. Any other phase stays.
-pub(crate) fn settle<K: Connector, C: Drop>(connector: &mut K, phase: &mut Phase<K::Byte, C>)
-    requires { links_held K.Byte.state K.Byte.start phase.old ≤ K.out connector.old }
+pub(crate) fn settle<K: Connector, C: Drop>(connector: &mut K, phase: &mut Phase<LinkOf<K>, C>)
+    requires { links_held ⟦<LinkOf<K> as ByteLink>⟧.state ⟦<LinkOf<K> as ByteLink>⟧.start phase.old
+        ≤ K.out connector.old }
     ensures settles { Settles phase.old (K.returned connector.old) (K.returned connector.new)
         phase.new }
     ensures over { is_over phase.new ≡ is_over phase.old }
-    ensures out { K.out connector.new + links_held K.Byte.state K.Byte.start phase.old
-        ≡ K.out connector.old + links_held K.Byte.state K.Byte.start phase.new }
+    ensures out { K.out connector.new + links_held ⟦<LinkOf<K> as ByteLink>⟧.state
+        ⟦<LinkOf<K> as ByteLink>⟧.start phase.old
+        ≡ K.out connector.old + links_held ⟦<LinkOf<K> as ByteLink>⟧.state
+        ⟦<LinkOf<K> as ByteLink>⟧.start phase.new }
     ensures faults { K.fault_count connector.new ≡ K.fault_count connector.old }
     ensures refusals { K.refusals connector.new ≡ K.refusals connector.old }
     ensures offers { K.stock connector.new ≡ K.stock connector.old }
-    ensures stock { all_items K.Byte.start (K.returned connector.new)
-        (items_held K.Byte.start phase.new) (K.stock connector.new)
-        ≡ all_items K.Byte.start (K.returned connector.old)
-        (items_held K.Byte.start phase.old) (K.stock connector.old) }
+    ensures links { all_links ⟦<LinkOf<K> as ByteLink>⟧.start (K.returned connector.new)
+        (items_held ⟦<LinkOf<K> as ByteLink>⟧.start phase.new)
+        ≡ all_links ⟦<LinkOf<K> as ByteLink>⟧.start (K.returned connector.old)
+        (items_held ⟦<LinkOf<K> as ByteLink>⟧.start phase.old) }
 {
     if phase.is_closing() {
         close(connector, phase);
@@ -69,21 +74,24 @@ pub(crate) fn settle<K: Connector, C: Drop>(connector: &mut K, phase: &mut Phase
 
 /// Ends a request that is to be closed, or goes on to another attempt or to what its client is
 /// owed: its link goes back.
-fn close<K: Connector, C: Drop>(connector: &mut K, phase: &mut Phase<K::Byte, C>)
+fn close<K: Connector, C: Drop>(connector: &mut K, phase: &mut Phase<LinkOf<K>, C>)
     requires closing { is_closing phase.old ≡ true }
-    requires held { links_held K.Byte.state K.Byte.start phase.old ≤ K.out connector.old }
+    requires held { links_held ⟦<LinkOf<K> as ByteLink>⟧.state ⟦<LinkOf<K> as ByteLink>⟧.start
+        phase.old ≤ K.out connector.old }
     ensures settles { Settles phase.old (K.returned connector.old) (K.returned connector.new)
         phase.new }
     ensures over { is_over phase.new ≡ is_over phase.old }
-    ensures out { K.out connector.new + links_held K.Byte.state K.Byte.start phase.old
-        ≡ K.out connector.old + links_held K.Byte.state K.Byte.start phase.new }
+    ensures out { K.out connector.new + links_held ⟦<LinkOf<K> as ByteLink>⟧.state
+        ⟦<LinkOf<K> as ByteLink>⟧.start phase.old
+        ≡ K.out connector.old + links_held ⟦<LinkOf<K> as ByteLink>⟧.state
+        ⟦<LinkOf<K> as ByteLink>⟧.start phase.new }
     ensures faults { K.fault_count connector.new ≡ K.fault_count connector.old }
     ensures refusals { K.refusals connector.new ≡ K.refusals connector.old }
     ensures offers { K.stock connector.new ≡ K.stock connector.old }
-    ensures stock { all_items K.Byte.start (K.returned connector.new)
-        (items_held K.Byte.start phase.new) (K.stock connector.new)
-        ≡ all_items K.Byte.start (K.returned connector.old)
-        (items_held K.Byte.start phase.old) (K.stock connector.old) }
+    ensures links { all_links ⟦<LinkOf<K> as ByteLink>⟧.start (K.returned connector.new)
+        (items_held ⟦<LinkOf<K> as ByteLink>⟧.start phase.new)
+        ≡ all_links ⟦<LinkOf<K> as ByteLink>⟧.start (K.returned connector.old)
+        (items_held ⟦<LinkOf<K> as ByteLink>⟧.start phase.old) }
 {
     match mem::replace(phase, Phase::ReadHead) {
         Phase::Close(link, lease, keep, outcome) => {
@@ -123,7 +131,7 @@ fn give_up(attempts: AttemptList) -> Ending
 }
 
 /// A request that has a link gives up: the link goes back and is not kept.
-fn give_link_up<K: Connector>(connector: &mut K, link: K::Byte, lease: Lease) -> Ending
+fn give_link_up<K: Connector>(connector: &mut K, link: LinkOf<K>, lease: Lease) -> Ending
     requires { 0 < K.out connector.old }
     ensures gives { GivesLinkUp link lease (K.returned connector.old) (K.returned connector.new)
         result }
@@ -131,9 +139,9 @@ fn give_link_up<K: Connector>(connector: &mut K, link: K::Byte, lease: Lease) ->
     ensures faults { K.fault_count connector.new ≡ K.fault_count connector.old }
     ensures refusals { K.refusals connector.new ≡ K.refusals connector.old }
     ensures offers { K.stock connector.new ≡ K.stock connector.old }
-    ensures stock { all_items K.Byte.start (K.returned connector.new) [] (K.stock connector.new)
-        ≡ all_items K.Byte.start (K.returned connector.old) ((K.Byte.start link).items ∷ [])
-        (K.stock connector.old) }
+    ensures links { all_links ⟦<LinkOf<K> as ByteLink>⟧.start (K.returned connector.new) []
+        ≡ all_links ⟦<LinkOf<K> as ByteLink>⟧.start (K.returned connector.old)
+        (handed (⟦<LinkOf<K> as ByteLink>⟧.start link) ∷ []) }
 {
     Ending {
         outcome: Outcome::TurnLimit,
@@ -146,18 +154,20 @@ fn give_link_up<K: Connector>(connector: &mut K, link: K::Byte, lease: Lease) ->
 pub(crate) fn finish<K: Connector, C: Drop>(
     alloc: Global,
     connector: &mut K,
-    phase: Phase<K::Byte, C>,
+    phase: Phase<LinkOf<K>, C>,
 ) -> Ending
-    requires { links_held K.Byte.state K.Byte.start phase ≤ K.out connector.old }
+    requires { links_held ⟦<LinkOf<K> as ByteLink>⟧.state ⟦<LinkOf<K> as ByteLink>⟧.start phase ≤
+        K.out connector.old }
     ensures finishes { Finishes phase (K.returned connector.old) (K.returned connector.new) result }
-    ensures out { K.out connector.new + links_held K.Byte.state K.Byte.start phase
+    ensures out { K.out connector.new + links_held ⟦<LinkOf<K> as ByteLink>⟧.state
+        ⟦<LinkOf<K> as ByteLink>⟧.start phase
         ≡ K.out connector.old }
     ensures faults { K.fault_count connector.new ≡ K.fault_count connector.old }
     ensures refusals { K.refusals connector.new ≡ K.refusals connector.old }
     ensures offers { K.stock connector.new ≡ K.stock connector.old }
-    ensures stock { all_items K.Byte.start (K.returned connector.new) []
-        (K.stock connector.new) ≡ all_items K.Byte.start (K.returned connector.old)
-        (items_held K.Byte.start phase) (K.stock connector.old) }
+    ensures links { all_links ⟦<LinkOf<K> as ByteLink>⟧.start (K.returned connector.new) []
+        ≡ all_links ⟦<LinkOf<K> as ByteLink>⟧.start (K.returned connector.old)
+        (items_held ⟦<LinkOf<K> as ByteLink>⟧.start phase) }
 {
     match phase {
         Phase::ReadHead => give_up(AttemptList::new(alloc)),

@@ -2,6 +2,7 @@
 //! or they answer the request or stop it (RFC 9110, section 3.7).
 ghost use Rattle.std.specs.Prelude.{◌≡◌, ◌⊎◌, ◌+◌, ◌≤◌, ◌<◌, [], ℕ, List, None, Some, true, false};
 ghost use Rattle.std.specs.Global.{Box};
+ghost use Rattle.relay_connector.specs.declared.upstream.Upstream.{Upstream};
 ghost use Rattle.relay_links.specs.Link.{LinkState};
 ghost use Rattle.relay_session.specs.Asked.{request_of};
 ghost use Rattle.relay_session.specs.declared.session.HttpSession.{HttpSession};
@@ -27,8 +28,9 @@ ghost use Rattle.relay_request.specs.Uses.{OwesAnswer, PhaseUses};
 use crate::answering::owe;
 use crate::connecting::{connect, lacks_memory};
 use crate::purging::purge;
+use relay_connector::{Connector, LinkOf};
 use relay_hooks::ProxyHttp;
-use relay_links::{ByteLink, Connector, Purger};
+use relay_links::{ByteLink, Purger};
 use relay_request::{
     AttemptList, Calls, Next, Opened, Owed, Phase, RunStep, Work, answer_error, call_next,
 };
@@ -47,21 +49,26 @@ pub(crate) fn reach<SV: ProxyHttp, K: Connector, P: Purger>(
     context: SV::CTX,
     session: Box<HttpSession>,
     tries: AttemptList,
-) -> Next<K::Byte, SV::CTX>
+) -> Next<LinkOf<K>, SV::CTX>
     ensures run { (s : Start) (p : Passed) (client : LinkState) (ahead : List ℕ) → s.most ≡ most
-        → CallsSoFar {L = K.Byte} (allowed_by (SV.allows app.now) SV.Modules.allows)
+        → CallsSoFar {L = Upstream K.Byte K.Message K.Custom} (allowed_by (SV.allows app.now)
+        SV.Modules.allows)
         (SV.mark_of app.now) calls.old (Phase.Connect context session tries)
-        → RunSoFar {C = SV.CTX} K.Byte.state K.Byte.start (called_to s (log_of calls.old)) p
+        → RunSoFar {C = SV.CTX} ⟦<LinkOf<K> as ByteLink>⟧.state ⟦<LinkOf<K> as ByteLink>⟧.start
+        (called_to s (log_of calls.old)) p
         (world_with client ahead (K.fault_count connector.old)) []
         (Phase.Connect context session tries)
-        → Advances {C = SV.CTX} K.Byte.state K.Byte.start (called_to s (log_of calls.new))
+        → Advances {C = SV.CTX} ⟦<LinkOf<K> as ByteLink>⟧.state ⟦<LinkOf<K> as ByteLink>⟧.start
+        (called_to s (log_of calls.new))
         (world_with client ahead (K.fault_count connector.new)) result.phase }
-    ensures calls { CallsSoFar {L = K.Byte} (allowed_by (SV.allows app.now) SV.Modules.allows)
+    ensures calls { CallsSoFar {L = Upstream K.Byte K.Message K.Custom} (allowed_by (SV.allows
+        app.now) SV.Modules.allows)
         (SV.mark_of app.now) calls.old (Phase.Connect context session tries)
-        → CallsSoFar {L = K.Byte} (allowed_by (SV.allows app.now) SV.Modules.allows)
+        → CallsSoFar {L = Upstream K.Byte K.Message K.Custom} (allowed_by (SV.allows app.now)
+        SV.Modules.allows)
         (SV.mark_of app.now) calls.new result.phase }
     ensures cause { (log : List _) (client : LinkState) (ahead : List ℕ)
-        → HasCause K.Byte.state K.Byte.start log
+        → HasCause ⟦<LinkOf<K> as ByteLink>⟧.state ⟦<LinkOf<K> as ByteLink>⟧.start log
         (world_with client ahead (K.fault_count connector.old))
         (world_with client ahead (K.fault_count connector.new))
         (Phase.Connect context session tries) result.phase result.step }
@@ -73,14 +80,17 @@ pub(crate) fn reach<SV: ProxyHttp, K: Connector, P: Purger>(
     ensures step { (result.step ≡ RunStep.Moved) ⊎ (result.step ≡ RunStep.Ended) }
     ensures over { is_over result.phase ≡ is_end result.step }
     ensures out { K.out connector.new
-        ≡ K.out connector.old + links_held K.Byte.state K.Byte.start result.phase }
+        ≡ K.out connector.old + links_held ⟦<LinkOf<K> as ByteLink>⟧.state
+        ⟦<LinkOf<K> as ByteLink>⟧.start result.phase }
     ensures returned { K.returned connector.new ≡ K.returned connector.old }
-    ensures fresh { PhaseUses K.Byte.state K.Byte.start 0 [] result.phase }
+    ensures fresh { PhaseUses ⟦<LinkOf<K> as ByteLink>⟧.state ⟦<LinkOf<K> as ByteLink>⟧.start 0 []
+        result.phase }
     ensures asks { TakesAfter (faults_told tries) (faults_before [] result.phase)
-        (items_held K.Byte.start result.phase) (K.refusals connector.old)
+        (items_held ⟦<LinkOf<K> as ByteLink>⟧.start result.phase) (K.refusals connector.old)
         (K.refusals connector.new) (K.stock connector.old) (K.stock connector.new) }
     ensures faults { K.fault_count connector.old ≤ K.fault_count connector.new }
-    ensures purger { CallsSoFar {L = K.Byte} (allowed_by (SV.allows app.now) SV.Modules.allows)
+    ensures purger { CallsSoFar {L = Upstream K.Byte K.Message K.Custom} (allowed_by (SV.allows
+        app.now) SV.Modules.allows)
         (SV.mark_of app.now) calls.old (Phase.Connect context session tries)
         → AsksPurger (P.state purger.old) (P.state purger.new) (log_of calls.old)
         (log_of calls.new) result.phase }

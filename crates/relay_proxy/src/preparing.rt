@@ -3,6 +3,7 @@
 //! RFC 9112, section 3.2).
 ghost use Rattle.std.specs.Prelude.{◌≡◌, ◌⊎◌, ◌≤◌, List, [], ◌∷◌, ◌++◌, ℕ, All, true, false, None, Some, IsSome, IfErr, IfOk};
 ghost use Rattle.std.specs.Global.{Box};
+ghost use Rattle.relay_connector.specs.Connector.{handed};
 ghost use Rattle.relay_attempt.specs.Passed.{Passed};
 ghost use Rattle.relay_authority.specs.Stage.{Makes};
 ghost use Rattle.relay_h1.specs.Framing.{request_framing};
@@ -67,7 +68,7 @@ pub(crate) fn prepare<SV: ProxyHttp, L: ByteLink, F: Front>(
     ensures held { held_state L.state result.phase ≡ Some (L.state link) }
     ensures tries { attempts_in result.phase ≡ tries_in lease }
     ensures linked { links_held L.state L.start result.phase ≡ 1 }
-    ensures items { items_held L.start result.phase ≡ (L.start link).items ∷ [] }
+    ensures items { items_held L.start result.phase ≡ handed (L.start link) ∷ [] }
     ensures asked { (n : ℕ) → LinkUses L.state L.start n link
         → PhaseUses L.state L.start n [] result.phase }
     ensures unended { IsUnended (log_of calls.old) → IsUnended (log_of calls.new) }
@@ -219,7 +220,7 @@ fn begin<SV: ProxyHttp, L: ByteLink, F: Front>(
     ensures held { held_state L.state result.phase ≡ Some (L.state link) }
     ensures tries { attempts_in result.phase ≡ tries_in lease }
     ensures linked { links_held L.state L.start result.phase ≡ 1 }
-    ensures items { items_held L.start result.phase ≡ (L.start link).items ∷ [] }
+    ensures items { items_held L.start result.phase ≡ handed (L.start link) ∷ [] }
     ensures asked { (n : ℕ) → LinkUses L.state L.start n link
         → PhaseUses L.state L.start n [] result.phase }
 {
@@ -263,7 +264,7 @@ fn break_unbegun<L: ByteLink, C: Drop>(
     ensures held { held_state L.state result.phase ≡ Some (L.state unbegun.link) }
     ensures tries { attempts_in result.phase ≡ tries_in lease }
     ensures linked { links_held L.state L.start result.phase ≡ 1 }
-    ensures items { items_held L.start result.phase ≡ (L.start unbegun.link).items ∷ [] }
+    ensures items { items_held L.start result.phase ≡ handed (L.start unbegun.link) ∷ [] }
     ensures asked { (n : ℕ) → LinkUses L.state L.start n unbegun.link
         → PhaseUses L.state L.start n [] result.phase }
 {
@@ -301,7 +302,7 @@ fn hold<L: ByteLink, C: Drop>(alloc: Global, attempt: Attempt<L, C>) -> Next<L, 
     ensures tries { attempts_in result.phase ≡ tries_in attempt.lease }
     ensures linked { links_held L.state L.start result.phase ≡ 1 }
     ensures items { items_held L.start result.phase
-        ≡ (L.start (link_of attempt.exchange)).items ∷ [] }
+        ≡ handed (L.start (link_of attempt.exchange)) ∷ [] }
     ensures asked { (n : ℕ) → LinkUses L.state L.start n (link_of attempt.exchange)
         → PhaseUses L.state L.start n [] result.phase }
 {

@@ -1,6 +1,7 @@
 //! The proxy: requests are begun, stepped and ended, or processed in one call.
 ghost use Rattle.std.specs.Prelude.{◌≡◌, ◌⊎◌, ◌+◌, ◌<◌, ◌≤◌, ℕ, [], List, drop, length, IsSome, None, Some, true, false};
 ghost use Rattle.std.specs.Global.{Box};
+ghost use Rattle.relay_connector.specs.Connector.{handed};
 ghost use Rattle.relay_tasks.specs.Log.{delays_of};
 ghost use Rattle.relay_links.specs.Count.{Rose};
 ghost use Rattle.relay_links.specs.Link.{LinkState};
@@ -16,7 +17,7 @@ ghost use Rattle.relay_request.specs.Phases.{RunSoFar};
 ghost use Rattle.relay_request.specs.Purging.{AsksPurger, HasLost, HasPurged};
 ghost use Rattle.relay_request.specs.Refusals.{attempts_in};
 ghost use Rattle.relay_request.specs.Request.{answer_of, is_done, is_stop, ended_after, kept_of, Counts, StepsOn, ComesToEnd, Processes};
-ghost use Rattle.relay_request.specs.Stock.{items_held, all_items};
+ghost use Rattle.relay_request.specs.Stock.{items_held, all_links, Stocks};
 ghost use Rattle.relay_request.specs.Turn.{world_of, held_state, links_held, is_reading_head, is_over, is_end, HasCause};
 ghost use Rattle.relay_request.specs.Uses.{CountsUses, MovesOn, OwesAnswer, StandsBehind};
 ghost use Rattle.relay_request.specs.Work.{added_work, total_work, Grows};
@@ -25,9 +26,10 @@ ghost use Rattle.relay_request.specs.declared.machine.Phase.{Phase};
 
 use crate::finish::{finish, settle};
 use crate::turn::take_turn;
+use relay_connector::{Connector, LinkOf};
 use relay_h1::Connection;
 use relay_hooks::ProxyHttp;
-use relay_links::{ByteLink, Connector, Delay, Purger, Schedule, ShutdownWatch};
+use relay_links::{ByteLink, Delay, Purger, Schedule, ShutdownWatch};
 use relay_request::{
     Calls, Did, Machine, Outcome, Processed, RunRecord, RunStep, Work, call_last, count_ended,
     count_turn, hand_delays, kept_of,
@@ -63,7 +65,7 @@ pub struct HttpProxy<SV, K, P> {
 
 /// A request under way. It holds the link of its attempt, so it is given to `end`.
 pub struct RequestMachine<SV: ProxyHttp, K: Connector> {
-    machine: Machine<K::Byte, SV::CTX>,
+    machine: Machine<LinkOf<K>, SV::CTX>,
     calls: Calls<SV::Modules, SV::Kept, SV::CTX>,
 }
 
@@ -183,7 +185,7 @@ impl<SV: ProxyHttp, K: Connector, P: Purger> HttpProxy<SV, K, P> {
         client: &mut Connection<D, SV::Kept>,
         kept: Option<SV::Kept>,
     ) -> RequestMachine<SV, K>
-        ensures run { RunSoFar K.Byte.state K.Byte.start
+        ensures run { RunSoFar ⟦<LinkOf<K> as ByteLink>⟧.state ⟦<LinkOf<K> as ByteLink>⟧.start
             (start_of self.now.conf.max_retries
             (world_of D.state client.old (K.fault_count self.now.connector)))
             nothing (world_of D.state client.new (K.fault_count self.now.connector)) []
@@ -202,10 +204,12 @@ impl<SV: ProxyHttp, K: Connector, P: Purger> HttpProxy<SV, K, P> {
         ensures unended { result.machine.work.ended ≡ 0 }
         ensures uncalled { result.machine.work.called ≡ 0 }
         ensures uncounted { (s : Start) (link : LinkState) (ahead : List ℕ) (own : List _)
-            → PhaseCounts K.Byte.state K.Byte.start 0 0 s link ahead own result.machine.phase }
+            → PhaseCounts ⟦<LinkOf<K> as ByteLink>⟧.state ⟦<LinkOf<K> as ByteLink>⟧.start 0 0 s link
+            ahead own result.machine.phase }
         ensures going { is_over result.machine.phase ≡ false }
-        ensures no_link { links_held K.Byte.state K.Byte.start result.machine.phase ≡ 0 }
-        ensures no_items { items_held K.Byte.start result.machine.phase ≡ [] }
+        ensures no_link { links_held ⟦<LinkOf<K> as ByteLink>⟧.state ⟦<LinkOf<K> as ByteLink>⟧.start
+            result.machine.phase ≡ 0 }
+        ensures no_items { items_held ⟦<LinkOf<K> as ByteLink>⟧.start result.machine.phase ≡ [] }
         ensures no_attempts { attempts_in result.machine.phase ≡ [] }
         ensures kept { result.calls.at ≡ At.Kept kept }
         ensures client { client.new ≡ client.old }
@@ -238,7 +242,8 @@ impl<SV: ProxyHttp, K: Connector, P: Purger> HttpProxy<SV, K, P> {
         client: &mut Connection<D, SV::Kept>,
         outside: &mut Outside<H, W, Y>,
     ) -> RunStep
-        requires { links_held K.Byte.state K.Byte.start machine.old.machine.phase
+        requires { links_held ⟦<LinkOf<K> as ByteLink>⟧.state ⟦<LinkOf<K> as ByteLink>⟧.start
+            machine.old.machine.phase
             ≤ K.out self.old.connector }
         // The run so far goes on, these links were handed back, and of what the connector has the
         // request took its link, or the one fault of which its attempt's error tells. What it
@@ -248,10 +253,12 @@ impl<SV: ProxyHttp, K: Connector, P: Purger> HttpProxy<SV, K, P> {
             → s.most ≡ self.old.conf.max_retries → s.first ≡ machine.old.machine.first
             → CallsSoFar (allowed_by (SV.allows self.old.inner) SV.Modules.allows)
             (SV.mark_of self.old.inner) machine.old.calls machine.old.machine.phase
-            → RunSoFar K.Byte.state K.Byte.start (called_to s (log_of machine.old.calls)) p
+            → RunSoFar ⟦<LinkOf<K> as ByteLink>⟧.state ⟦<LinkOf<K> as ByteLink>⟧.start (called_to s
+            (log_of machine.old.calls)) p
             (world_of D.state client.old (K.fault_count self.old.connector)) own
             machine.old.machine.phase
-            → StepsOn K.Byte.state K.Byte.start (called_to s (log_of machine.old.calls))
+            → StepsOn ⟦<LinkOf<K> as ByteLink>⟧.state ⟦<LinkOf<K> as ByteLink>⟧.start (called_to s
+            (log_of machine.old.calls))
             (called_to s (log_of machine.new.calls)) p
             (world_of D.state client.new (K.fault_count self.new.connector)) own
             (K.returned self.old.connector) (K.returned self.new.connector)
@@ -265,7 +272,8 @@ impl<SV: ProxyHttp, K: Connector, P: Purger> HttpProxy<SV, K, P> {
             → s.most ≡ self.old.conf.max_retries → s.first ≡ machine.old.machine.first
             → CallsSoFar (allowed_by (SV.allows self.old.inner) SV.Modules.allows)
             (SV.mark_of self.old.inner) machine.old.calls machine.old.machine.phase
-            → RunSoFar K.Byte.state K.Byte.start (called_to s (log_of machine.old.calls)) p
+            → RunSoFar ⟦<LinkOf<K> as ByteLink>⟧.state ⟦<LinkOf<K> as ByteLink>⟧.start (called_to s
+            (log_of machine.old.calls)) p
             (world_of D.state client.old (K.fault_count self.old.connector)) own
             machine.old.machine.phase
             → CallsSoFar (allowed_by (SV.allows self.old.inner) SV.Modules.allows)
@@ -288,7 +296,8 @@ impl<SV: ProxyHttp, K: Connector, P: Purger> HttpProxy<SV, K, P> {
         // branch that it took. It waits only where a link answered so in this step; and in silence
         // all that can be done asks a link that is silent on it, and neither link changed. Or it
         // moved, and hooks were called.
-        ensures cause { HasCause K.Byte.state K.Byte.start (log_of machine.old.calls)
+        ensures cause { HasCause ⟦<LinkOf<K> as ByteLink>⟧.state ⟦<LinkOf<K> as ByteLink>⟧.start
+            (log_of machine.old.calls)
             (world_of D.state client.old (K.fault_count self.old.connector))
             (world_of D.state client.new (K.fault_count self.new.connector))
             machine.old.machine.phase machine.new.machine.phase result
@@ -301,21 +310,23 @@ impl<SV: ProxyHttp, K: Connector, P: Purger> HttpProxy<SV, K, P> {
         ensures uses { (s : Start) (p : Passed) (own : List _)
             → CallsSoFar (allowed_by (SV.allows self.old.inner) SV.Modules.allows)
             (SV.mark_of self.old.inner) machine.old.calls machine.old.machine.phase
-            → RunSoFar K.Byte.state K.Byte.start (called_to s (log_of machine.old.calls)) p
+            → RunSoFar ⟦<LinkOf<K> as ByteLink>⟧.state ⟦<LinkOf<K> as ByteLink>⟧.start (called_to s
+            (log_of machine.old.calls)) p
             (world_of D.state client.old (K.fault_count self.old.connector)) own
             machine.old.machine.phase
             → CountsUses machine.old.machine.work.used machine.new.machine.work.used
             (D.state client.old.link) (D.state client.new.link)
-            (held_state K.Byte.state machine.old.machine.phase)
-            (StandsBehind K.Byte.state (K.returned self.old.connector)
+            (held_state ⟦<LinkOf<K> as ByteLink>⟧.state machine.old.machine.phase)
+            (StandsBehind ⟦<LinkOf<K> as ByteLink>⟧.state (K.returned self.old.connector)
             (K.returned self.new.connector)
-            (held_state K.Byte.state machine.new.machine.phase)) }
+            (held_state ⟦<LinkOf<K> as ByteLink>⟧.state machine.new.machine.phase)) }
         // In an exchange that moved, a use, a task or an end was counted, by the branch it took; or
         // it failed, and the client is owed an answer; or hooks were called; or it ended, and hooks
         // are called for that.
         ensures moves { (a : Box _) → machine.old.machine.phase ≡ Phase.Relay a
             → result ≡ RunStep.Moved
-            → MovesOn K.Byte.state K.Byte.start (log_of machine.old.calls)
+            → MovesOn ⟦<LinkOf<K> as ByteLink>⟧.state ⟦<LinkOf<K> as ByteLink>⟧.start
+            (log_of machine.old.calls)
             (world_of D.state client.old (K.fault_count self.old.connector))
             (world_of D.state client.new (K.fault_count self.new.connector))
             machine.old.machine.work machine.new.machine.work a.value.exchange
@@ -342,17 +353,20 @@ impl<SV: ProxyHttp, K: Connector, P: Purger> HttpProxy<SV, K, P> {
         ensures first { machine.new.machine.first ≡ machine.old.machine.first }
         ensures counted { Counts machine.old.machine.turns machine.new.machine.turns result }
         ensures out { K.out self.new.connector
-            + links_held K.Byte.state K.Byte.start machine.old.machine.phase
+            + links_held ⟦<LinkOf<K> as ByteLink>⟧.state ⟦<LinkOf<K> as ByteLink>⟧.start
+            machine.old.machine.phase
             ≡ K.out self.old.connector
-            + links_held K.Byte.state K.Byte.start machine.new.machine.phase }
+            + links_held ⟦<LinkOf<K> as ByteLink>⟧.state ⟦<LinkOf<K> as ByteLink>⟧.start
+            machine.new.machine.phase }
         ensures faults { K.fault_count self.old.connector ≤ K.fault_count self.new.connector }
         // No call of a link changes what it was as it was handed out, and the connector's links are
         // those that it had: come back, held by the machine, or left, in order.
         ensures client_start { D.start client.new.link ≡ D.start client.old.link }
-        ensures stock { all_items K.Byte.start (K.returned self.new.connector)
-            (items_held K.Byte.start machine.new.machine.phase) (K.stock self.new.connector)
-            ≡ all_items K.Byte.start (K.returned self.old.connector)
-            (items_held K.Byte.start machine.old.machine.phase) (K.stock self.old.connector) }
+        ensures stock { Stocks ⟦<LinkOf<K> as ByteLink>⟧.start
+            (K.returned self.old.connector) (K.returned self.new.connector)
+            (items_held ⟦<LinkOf<K> as ByteLink>⟧.start machine.old.machine.phase)
+            (items_held ⟦<LinkOf<K> as ByteLink>⟧.start machine.new.machine.phase)
+            (K.stock self.old.connector) (K.stock self.new.connector) }
         ensures kept { client.new.kept ≡ client.old.kept }
         // Beside the links and the connector it asks the schedule, and hands over each delay that a
         // call of this step asked for.
@@ -417,7 +431,8 @@ impl<SV: ProxyHttp, K: Connector, P: Purger> HttpProxy<SV, K, P> {
         client: &mut Connection<D, SV::Kept>,
         outside: &mut Outside<H, W, Y>,
     ) -> RunStep
-        requires { links_held K.Byte.state K.Byte.start machine.old.machine.phase
+        requires { links_held ⟦<LinkOf<K> as ByteLink>⟧.state ⟦<LinkOf<K> as ByteLink>⟧.start
+            machine.old.machine.phase
             ≤ K.out self.old.connector }
         // The run so far goes on, these links were handed back, and of what the connector has the
         // request took its link, or the one fault of which its attempt's error tells. What it
@@ -427,10 +442,12 @@ impl<SV: ProxyHttp, K: Connector, P: Purger> HttpProxy<SV, K, P> {
             → s.most ≡ self.old.conf.max_retries → s.first ≡ machine.old.machine.first
             → CallsSoFar (allowed_by (SV.allows self.old.inner) SV.Modules.allows)
             (SV.mark_of self.old.inner) machine.old.calls machine.old.machine.phase
-            → RunSoFar K.Byte.state K.Byte.start (called_to s (log_of machine.old.calls)) p
+            → RunSoFar ⟦<LinkOf<K> as ByteLink>⟧.state ⟦<LinkOf<K> as ByteLink>⟧.start (called_to s
+            (log_of machine.old.calls)) p
             (world_of D.state client.old (K.fault_count self.old.connector)) own
             machine.old.machine.phase
-            → StepsOn K.Byte.state K.Byte.start (called_to s (log_of machine.old.calls))
+            → StepsOn ⟦<LinkOf<K> as ByteLink>⟧.state ⟦<LinkOf<K> as ByteLink>⟧.start (called_to s
+            (log_of machine.old.calls))
             (called_to s (log_of machine.new.calls)) p
             (world_of D.state client.new (K.fault_count self.new.connector)) own
             (K.returned self.old.connector) (K.returned self.new.connector)
@@ -444,7 +461,8 @@ impl<SV: ProxyHttp, K: Connector, P: Purger> HttpProxy<SV, K, P> {
             → s.most ≡ self.old.conf.max_retries → s.first ≡ machine.old.machine.first
             → CallsSoFar (allowed_by (SV.allows self.old.inner) SV.Modules.allows)
             (SV.mark_of self.old.inner) machine.old.calls machine.old.machine.phase
-            → RunSoFar K.Byte.state K.Byte.start (called_to s (log_of machine.old.calls)) p
+            → RunSoFar ⟦<LinkOf<K> as ByteLink>⟧.state ⟦<LinkOf<K> as ByteLink>⟧.start (called_to s
+            (log_of machine.old.calls)) p
             (world_of D.state client.old (K.fault_count self.old.connector)) own
             machine.old.machine.phase
             → CallsSoFar (allowed_by (SV.allows self.old.inner) SV.Modules.allows)
@@ -467,7 +485,8 @@ impl<SV: ProxyHttp, K: Connector, P: Purger> HttpProxy<SV, K, P> {
         // branch that it took. It waits only where a link answered so in this step; and in silence
         // all that can be done asks a link that is silent on it, and neither link changed. Or it
         // moved, and hooks were called.
-        ensures cause { HasCause K.Byte.state K.Byte.start (log_of machine.old.calls)
+        ensures cause { HasCause ⟦<LinkOf<K> as ByteLink>⟧.state ⟦<LinkOf<K> as ByteLink>⟧.start
+            (log_of machine.old.calls)
             (world_of D.state client.old (K.fault_count self.old.connector))
             (world_of D.state client.new (K.fault_count self.new.connector))
             machine.old.machine.phase machine.new.machine.phase result
@@ -478,20 +497,22 @@ impl<SV: ProxyHttp, K: Connector, P: Purger> HttpProxy<SV, K, P> {
         ensures uses { (s : Start) (p : Passed) (own : List _)
             → CallsSoFar (allowed_by (SV.allows self.old.inner) SV.Modules.allows)
             (SV.mark_of self.old.inner) machine.old.calls machine.old.machine.phase
-            → RunSoFar K.Byte.state K.Byte.start (called_to s (log_of machine.old.calls)) p
+            → RunSoFar ⟦<LinkOf<K> as ByteLink>⟧.state ⟦<LinkOf<K> as ByteLink>⟧.start (called_to s
+            (log_of machine.old.calls)) p
             (world_of D.state client.old (K.fault_count self.old.connector)) own
             machine.old.machine.phase
             → CountsUses machine.old.machine.work.used machine.new.machine.work.used
             (D.state client.old.link) (D.state client.new.link)
-            (held_state K.Byte.state machine.old.machine.phase)
-            (StandsBehind K.Byte.state (K.returned self.old.connector)
+            (held_state ⟦<LinkOf<K> as ByteLink>⟧.state machine.old.machine.phase)
+            (StandsBehind ⟦<LinkOf<K> as ByteLink>⟧.state (K.returned self.old.connector)
             (K.returned self.new.connector)
-            (held_state K.Byte.state machine.new.machine.phase)) }
+            (held_state ⟦<LinkOf<K> as ByteLink>⟧.state machine.new.machine.phase)) }
         // In an exchange that moved, a use, a task or an end was counted, by the branch it took; or
         // it failed, and the client is owed an answer; or hooks were called.
         ensures moves { (a : Box _) → machine.old.machine.phase ≡ Phase.Relay a
             → result ≡ RunStep.Moved
-            → MovesOn K.Byte.state K.Byte.start (log_of machine.old.calls)
+            → MovesOn ⟦<LinkOf<K> as ByteLink>⟧.state ⟦<LinkOf<K> as ByteLink>⟧.start
+            (log_of machine.old.calls)
             (world_of D.state client.old (K.fault_count self.old.connector))
             (world_of D.state client.new (K.fault_count self.new.connector))
             machine.old.machine.work machine.new.machine.work a.value.exchange
@@ -520,17 +541,20 @@ impl<SV: ProxyHttp, K: Connector, P: Purger> HttpProxy<SV, K, P> {
         ensures first { machine.new.machine.first ≡ machine.old.machine.first }
         ensures counted { Counts machine.old.machine.turns machine.new.machine.turns result }
         ensures out { K.out self.new.connector
-            + links_held K.Byte.state K.Byte.start machine.old.machine.phase
+            + links_held ⟦<LinkOf<K> as ByteLink>⟧.state ⟦<LinkOf<K> as ByteLink>⟧.start
+            machine.old.machine.phase
             ≡ K.out self.old.connector
-            + links_held K.Byte.state K.Byte.start machine.new.machine.phase }
+            + links_held ⟦<LinkOf<K> as ByteLink>⟧.state ⟦<LinkOf<K> as ByteLink>⟧.start
+            machine.new.machine.phase }
         ensures faults { K.fault_count self.old.connector ≤ K.fault_count self.new.connector }
         // No call of a link changes what it was as it was handed out, and the connector's links are
         // those that it had: come back, held by the machine, or left, in order.
         ensures client_start { D.start client.new.link ≡ D.start client.old.link }
-        ensures stock { all_items K.Byte.start (K.returned self.new.connector)
-            (items_held K.Byte.start machine.new.machine.phase) (K.stock self.new.connector)
-            ≡ all_items K.Byte.start (K.returned self.old.connector)
-            (items_held K.Byte.start machine.old.machine.phase) (K.stock self.old.connector) }
+        ensures stock { Stocks ⟦<LinkOf<K> as ByteLink>⟧.start
+            (K.returned self.old.connector) (K.returned self.new.connector)
+            (items_held ⟦<LinkOf<K> as ByteLink>⟧.start machine.old.machine.phase)
+            (items_held ⟦<LinkOf<K> as ByteLink>⟧.start machine.new.machine.phase)
+            (K.stock self.old.connector) (K.stock self.new.connector) }
         ensures kept { client.new.kept ≡ client.old.kept }
         // Beside the links and the connector it asks the schedule alone.
         ensures outside { outside.new ≡ record outside.old { schedule = outside.new.schedule } }
@@ -569,13 +593,14 @@ impl<SV: ProxyHttp, K: Connector, P: Purger> HttpProxy<SV, K, P> {
         machine: RequestMachine<SV, K>,
         client: &mut Connection<D, SV::Kept>,
     ) -> (Processed, Option<SV::Kept>)
-        requires { links_held K.Byte.state K.Byte.start machine.machine.phase
+        requires { links_held ⟦<LinkOf<K> as ByteLink>⟧.state ⟦<LinkOf<K> as ByteLink>⟧.start
+            machine.machine.phase
             ≤ K.out self.old.connector }
         ensures ends { (s : Start) (p : Passed) (own : List _)
-            → RunSoFar K.Byte.state K.Byte.start s p
+            → RunSoFar ⟦<LinkOf<K> as ByteLink>⟧.state ⟦<LinkOf<K> as ByteLink>⟧.start s p
             (world_of D.state client.old (K.fault_count self.old.connector)) own
             machine.machine.phase
-            → ComesToEnd K.Byte.state K.Byte.start s p
+            → ComesToEnd ⟦<LinkOf<K> as ByteLink>⟧.state ⟦<LinkOf<K> as ByteLink>⟧.start s p
             (world_of D.state client.new (K.fault_count self.new.connector)) own
             (K.returned self.old.connector) (K.returned self.new.connector)
             machine.machine.phase machine.calls.at result.0 }
@@ -592,11 +617,12 @@ impl<SV: ProxyHttp, K: Connector, P: Purger> HttpProxy<SV, K, P> {
         ensures refusals { K.refusals self.new.connector ≡ K.refusals self.old.connector }
         ensures offers { K.stock self.new.connector ≡ K.stock self.old.connector }
         ensures out { K.out self.new.connector
-            + links_held K.Byte.state K.Byte.start machine.machine.phase
+            + links_held ⟦<LinkOf<K> as ByteLink>⟧.state ⟦<LinkOf<K> as ByteLink>⟧.start
+            machine.machine.phase
             ≡ K.out self.old.connector }
-        ensures stock { all_items K.Byte.start (K.returned self.new.connector) []
-            (K.stock self.new.connector) ≡ all_items K.Byte.start (K.returned self.old.connector)
-            (items_held K.Byte.start machine.machine.phase) (K.stock self.old.connector) }
+        ensures links { all_links ⟦<LinkOf<K> as ByteLink>⟧.start (K.returned self.new.connector) []
+            ≡ all_links ⟦<LinkOf<K> as ByteLink>⟧.start (K.returned self.old.connector)
+            (items_held ⟦<LinkOf<K> as ByteLink>⟧.start machine.machine.phase) }
         ensures kept { result.1 ≡ kept_of result.0.outcome (kept_at machine.calls.at) }
         // A value is kept where `persist_connection_context` was called last, and gave one.
         ensures keeps { CallsSoFar (allowed_by (SV.allows self.old.inner) SV.Modules.allows)
@@ -642,7 +668,8 @@ impl<SV: ProxyHttp, K: Connector, P: Purger> HttpProxy<SV, K, P> {
         outside: &mut Outside<H, W, Y>,
         turns: u64,
     ) -> Processed
-        ensures processes { Processes K.Byte.state K.Byte.start
+        ensures processes { Processes ⟦<LinkOf<K> as ByteLink>⟧.state
+            ⟦<LinkOf<K> as ByteLink>⟧.start
             (called_to (start_of self.old.conf.max_retries
             (world_of D.state client.old (K.fault_count self.old.connector))) result.history.log)
             (world_of D.state client.new (K.fault_count self.new.connector))
@@ -663,9 +690,9 @@ impl<SV: ProxyHttp, K: Connector, P: Purger> HttpProxy<SV, K, P> {
         // The client's link is the one that it was, and the connector's links are those that it
         // had.
         ensures client_start { D.start client.new.link ≡ D.start client.old.link }
-        ensures stock { all_items K.Byte.start (K.returned self.new.connector) []
-            (K.stock self.new.connector) ≡ all_items K.Byte.start (K.returned self.old.connector)
-            [] (K.stock self.old.connector) }
+        ensures stock { Stocks ⟦<LinkOf<K> as ByteLink>⟧.start
+            (K.returned self.old.connector) (K.returned self.new.connector) [] []
+            (K.stock self.old.connector) (K.stock self.new.connector) }
         // Beside the links and the connector it asks the schedule, and hands over each delay that
         // the log tells.
         ensures outside { outside.new ≡ record outside.old {
@@ -704,13 +731,14 @@ impl<SV: ProxyHttp, K: Connector, P: Purger> HttpProxy<SV, K, P> {
         machine: RequestMachine<SV, K>,
         client: &mut Connection<D, SV::Kept>,
     ) -> Processed
-        requires { links_held K.Byte.state K.Byte.start machine.machine.phase
+        requires { links_held ⟦<LinkOf<K> as ByteLink>⟧.state ⟦<LinkOf<K> as ByteLink>⟧.start
+            machine.machine.phase
             ≤ K.out self.old.connector }
         ensures ends { (s : Start) (p : Passed) (own : List _)
-            → RunSoFar K.Byte.state K.Byte.start s p
+            → RunSoFar ⟦<LinkOf<K> as ByteLink>⟧.state ⟦<LinkOf<K> as ByteLink>⟧.start s p
             (world_of D.state client.old (K.fault_count self.old.connector)) own
             machine.machine.phase
-            → ComesToEnd K.Byte.state K.Byte.start s p
+            → ComesToEnd ⟦<LinkOf<K> as ByteLink>⟧.state ⟦<LinkOf<K> as ByteLink>⟧.start s p
             (world_of D.state client.new (K.fault_count self.new.connector)) own
             (K.returned self.old.connector) (K.returned self.new.connector)
             machine.machine.phase machine.calls.at result }
@@ -723,11 +751,12 @@ impl<SV: ProxyHttp, K: Connector, P: Purger> HttpProxy<SV, K, P> {
         ensures refusals { K.refusals self.new.connector ≡ K.refusals self.old.connector }
         ensures offers { K.stock self.new.connector ≡ K.stock self.old.connector }
         ensures out { K.out self.new.connector
-            + links_held K.Byte.state K.Byte.start machine.machine.phase
+            + links_held ⟦<LinkOf<K> as ByteLink>⟧.state ⟦<LinkOf<K> as ByteLink>⟧.start
+            machine.machine.phase
             ≡ K.out self.old.connector }
-        ensures stock { all_items K.Byte.start (K.returned self.new.connector) []
-            (K.stock self.new.connector) ≡ all_items K.Byte.start (K.returned self.old.connector)
-            (items_held K.Byte.start machine.machine.phase) (K.stock self.old.connector) }
+        ensures links { all_links ⟦<LinkOf<K> as ByteLink>⟧.start (K.returned self.new.connector) []
+            ≡ all_links ⟦<LinkOf<K> as ByteLink>⟧.start (K.returned self.old.connector)
+            (items_held ⟦<LinkOf<K> as ByteLink>⟧.start machine.machine.phase) }
         ensures link { client.new.link ≡ client.old.link }
         ensures ahead { client.new.ahead ≡ client.old.ahead }
         // A value is kept where `persist_connection_context` was called last, and gave one.

@@ -2,6 +2,7 @@
 //! has ended (RFC 9112, section 9.3).
 ghost use Rattle.std.specs.Prelude.{◌≡◌, ◌⊎◌, ◌+◌, ◌++◌, ◌<◌, All, List, ℕ, [], ◌∷◌, length, None, Some, true, false, if◌then◌else◌};
 ghost use Rattle.std.specs.Global.{Box};
+ghost use Rattle.relay_connector.specs.Connector.{handed};
 ghost use Rattle.relay_tasks.specs.declared.log.LogEntry.{LogEntry};
 ghost use Rattle.relay_core.specs.Asked.{WaitRose};
 ghost use Rattle.relay_core.specs.Causes.{says_failed};
@@ -253,7 +254,7 @@ fn leave<L: ByteLink, C: Drop>(
         → PhaseUses L.state L.start n [] result.phase }
     ensures over { is_over result.phase ≡ is_end result.step }
     ensures linked { links_held L.state L.start result.phase ≡ 1 }
-    ensures items { items_held L.start result.phase ≡ (L.start link).items ∷ [] }
+    ensures items { items_held L.start result.phase ≡ handed (L.start link) ∷ [] }
     ensures work { result.work ≡ work }
 {
     match why {
@@ -286,7 +287,7 @@ fn break_off<L: ByteLink, C: Drop>(
         → PhaseUses L.state L.start n [] result.phase }
     ensures over { is_over result.phase ≡ is_end result.step }
     ensures linked { links_held L.state L.start result.phase ≡ 1 }
-    ensures items { items_held L.start result.phase ≡ (L.start link).items ∷ [] }
+    ensures items { items_held L.start result.phase ≡ handed (L.start link) ∷ [] }
     ensures work { result.work ≡ work }
 {
     match Box::new(alloc, session) {

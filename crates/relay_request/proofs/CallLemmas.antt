@@ -20,7 +20,7 @@ use Rattle.relay_tasks.specs.declared.hook.Hook.TheVariants as hook
 use Rattle.relay_tasks.specs.declared.log.LogEntry.{LogEntry}
 use Rattle.relay_tasks.specs.declared.log.View.{View}
 use Rattle.relay_tasks.specs.declared.task.HttpTask.{HttpTask}
-use Rattle.relay_links.specs.declared.Returned.{Returned}
+use Rattle.relay_connector.specs.declared.Returned.{Returned}
 use Rattle.relay_opening.proofs.ToldLemmas.{reads_truncated}
 use Rattle.relay_session.specs.Reading.{head_of, is_truncated}
 use Rattle.relay_session.specs.Response.{has_head}

@@ -21,6 +21,7 @@ use Rattle.relay_tasks.specs.declared.hook.Hook.{Hook}
 use Rattle.relay_tasks.specs.declared.hook.Hook.TheVariants as hook
 use Rattle.relay_tasks.specs.declared.log.Item.TheVariants as item
 use Rattle.relay_tasks.specs.declared.log.LogEntry.{LogEntry}
+use Rattle.relay_links.specs.Link.{LinkStart}
 use Rattle.relay_phases.specs.Order.{Station, Accepts, accepted}
 use Rattle.relay_request.specs.Ahead.{LetsGo, goes_on}
 use Rattle.relay_request.specs.Calls.{IsUnended}
@@ -254,18 +255,19 @@ module _ (these those : List LogEntry) (e : LogEntry) (more : those ≡ these ++
     }
 
     -- no head is sent
-    pub refuses_on : {head : RequestHead} {keep : Bool} {error : Error}
-        → RefusesToSend these head keep error → RefusesToSend those head keep error
+    pub refuses_on : {start : LinkStart} {head : RequestHead} {keep : Bool} {error : Error}
+        → RefusesToSend these start head keep error → RefusesToSend those start head keep error
     refuses_on (RefusesToSend.untold fails kept) =
         RefusesToSend.untold (fails_on hook.ConnectedToUpstream _ fails) kept
-    refuses_on (RefusesToSend.unfiltered fails kept) =
-        RefusesToSend.unfiltered (fails_on hook.UpstreamRequestFilter _ fails) kept
-    refuses_on (RefusesToSend.unsettled filtered filters settles kept) =
-        RefusesToSend.unsettled filtered (filters_on filters) settles kept
-    refuses_on (RefusesToSend.unpassed (inl fails) kept) =
-        RefusesToSend.unpassed (inl (fails_on hook.RequestBodyFilter _ fails)) kept
-    refuses_on (RefusesToSend.unpassed (inr fails) kept) =
-        RefusesToSend.unpassed (inr (fails_on hook.ModuleRequestBody _ fails)) kept
+    refuses_on (RefusesToSend.unspoken silent is kept) = RefusesToSend.unspoken silent is kept
+    refuses_on (RefusesToSend.unfiltered speaks fails kept) =
+        RefusesToSend.unfiltered speaks (fails_on hook.UpstreamRequestFilter _ fails) kept
+    refuses_on (RefusesToSend.unsettled speaks filtered filters settles kept) =
+        RefusesToSend.unsettled speaks filtered (filters_on filters) settles kept
+    refuses_on (RefusesToSend.unpassed speaks (inl fails) kept) =
+        RefusesToSend.unpassed speaks (inl (fails_on hook.RequestBodyFilter _ fails)) kept
+    refuses_on (RefusesToSend.unpassed speaks (inr fails) kept) =
+        RefusesToSend.unpassed speaks (inr (fails_on hook.ModuleRequestBody _ fails)) kept
 
     -- the last call treated that error
     pub treats_last : (raised treated : Error) → e.input ≡ item.Failure raised

@@ -1,12 +1,9 @@
 -- What a request comes to whose hooks ended it before its attempts: one of them answered it, or
 -- stopped it with an error (RFC 9110, sections 3.7 and 15).
 use Rattle.std.specs.Prelude.{◌≡◌, ◌⊎◌, ℕ, Bool, true, false, List, [], ◌∷◌, ◌++◌, Option, None, Some}
-use Rattle.relay_tasks.specs.Error.{new_error}
 use Rattle.relay_tasks.specs.Head.{RequestHead, ResponseHead}
 use Rattle.relay_tasks.specs.Hooks.{same_hook}
 use Rattle.relay_tasks.specs.declared.Error.{Error}
-use Rattle.relay_tasks.specs.declared.ErrorSource.{ErrorSource}
-use Rattle.relay_tasks.specs.declared.ErrorType.TheVariants as kind
 use Rattle.relay_tasks.specs.declared.hook.Hook.TheVariants as hook
 use Rattle.relay_tasks.specs.declared.log.LogEntry.{LogEntry}
 use Rattle.relay_tasks.specs.declared.task.HttpTask.{HttpTask}
@@ -29,10 +26,6 @@ use Rattle.relay_request.specs.Passed.{Start}
 use Rattle.relay_request.specs.Passed as passed
 use Rattle.relay_request.specs.Relayable.{IsAccepted}
 use Rattle.relay_request.specs.Sent.{IsAnswered, only_treats}
-
--- the error of a request that is not relayed
-abbrev pub unrelayed : ErrorSource → Error
-unrelayed side = new_error (kind.Custom 1) side
 
 -- at that station hooks have let the request go to an upstream, and none of an attempt has failed
 abbrev pub goes_on : Station → Bool

@@ -5,7 +5,7 @@ use Rattle.relay_tasks.specs.Head.{RequestHead}
 use Rattle.relay_tasks.specs.declared.log.LogEntry.{LogEntry}
 use Rattle.relay_links.specs.Link.{LinkState, LinkStart}
 use Rattle.relay_links.specs.Told.{Since}
-use Rattle.relay_links.specs.declared.Returned.{Returned}
+use Rattle.relay_connector.specs.declared.Returned.{Returned}
 use Rattle.relay_attempt.specs.Bound.{most_tasks}
 use Rattle.relay_hooked.specs.Bound.{HasCounted}
 use Rattle.relay_request.specs.Passed.{Start, origin_at}

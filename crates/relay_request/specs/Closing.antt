@@ -5,7 +5,7 @@ use Rattle.relay_tasks.specs.declared.Error.{Error}
 use Rattle.relay_tasks.specs.declared.log.LogEntry.{LogEntry}
 use Rattle.relay_links.specs.Link.{LinkState, LinkStart}
 use Rattle.relay_links.specs.Told.{more}
-use Rattle.relay_links.specs.declared.Returned.{Returned}
+use Rattle.relay_connector.specs.declared.Returned.{Returned}
 use Rattle.relay_h1.specs.Verdict.{IsOpen}
 use Rattle.relay_peer.specs.Body.{IsFrontOf}
 use Rattle.relay_attempt.specs.Passed.{Passed}

@@ -15,7 +15,8 @@ use Rattle.relay_tasks.specs.declared.task.HttpTask.{HttpTask}
 use Rattle.relay_tasks.specs.Task.{is_end}
 use Rattle.relay_links.specs.Count.{Rose}
 use Rattle.relay_links.specs.Link.{LinkState, LinkStart, IsHandedOut, IsReadFault, IsWriteFault}
-use Rattle.relay_links.specs.declared.Returned.{Returned}
+use Rattle.relay_connector.specs.Upstream.{SpeaksBytes}
+use Rattle.relay_connector.specs.declared.Returned.{Returned}
 use Rattle.relay_h1.specs.Options.{closes}
 use Rattle.relay_h1.specs.Verdict.{IsOpen, HasRequest, IsRefusedRequest, refused_from}
 use Rattle.relay_h1.specs.Wire.{generated}
@@ -38,12 +39,12 @@ use Rattle.relay_hooked.specs.Calls.{Filtering}
 use Rattle.relay_hooked.specs.Neutral.{AreNeutral}
 use Rattle.relay_hooked.specs.Order as exchange
 use Rattle.relay_hooked.specs.Order.{EndsEarly, FailsFor, order_of, text_of, IsInOrderWith, IsRelayed, Keeps, MayServe, SendsShort}
-use Rattle.relay_request.specs.Ahead.{IsOwedAhead, unrelayed}
+use Rattle.relay_request.specs.Ahead.{IsOwedAhead}
 use Rattle.relay_request.specs.Answer.{answer_to, owed_text, past_at}
 use Rattle.relay_request.specs.Named.{IsNamed}
 use Rattle.relay_request.specs.Relayable.{IsAccepted, IsConnect, IsRelayable, NamesUpgrade}
 use Rattle.relay_request.specs.Passed.{World, Start, StandsIn, answered, origin_at, asked, TellsClient, TellsLink, IsUnsent, IsUntouched}
-use Rattle.relay_request.specs.Sent.{Sends, RefusesToSend, IsAnswered, IsTreated, IsUntreated}
+use Rattle.relay_request.specs.Sent.{Sends, RefusesToSend, IsAnswered, IsTreated, IsUntreated, unrelayed}
 use Rattle.relay_request.specs.Tries.{AreTries, EndsTrying, IsRefusedFor, LosesTry, MayTry, fault_error, made_before}
 use Rattle.relay_request.specs.declared.outcome.Outcome.{Outcome}
 use Rattle.relay_request.specs.declared.outcome.Outcome.TheVariants.{NoRequest, Refused, Served, TurnLimit, OutOfMemory}
@@ -81,10 +82,10 @@ pub data IsInOrder (s : Start) (p : Passed) : Type 0 where
   is_unlinked : (head : RequestHead) (e : Error) → IsAccepted s p head → IsRefusedFor s.called e
       → IsAnswered s.closed e → IsFrontOf p.written (answer_to head (answered s)) → p.sent ≡ []
       → IsInOrder s p
-  is_unsent : (head : RequestHead) (keep : Bool) (raised e : Error) → IsAccepted s p head
-      → RefusesToSend s.called head keep raised → IsTreated s.called raised e
-      → IsAnswered s.closed e → IsFrontOf p.written (answer_to head (answered s)) → p.sent ≡ [] →
-      IsInOrder s p
+  is_unsent : (head : RequestHead) (start : LinkStart) (keep : Bool) (raised e : Error)
+      → IsAccepted s p head → RefusesToSend s.called start head keep raised
+      → IsTreated s.called raised e → IsAnswered s.closed e
+      → IsFrontOf p.written (answer_to head (answered s)) → p.sent ≡ [] → IsInOrder s p
   is_failure : (refused : Option Error) (f : Filtering) (began : List LogEntry)
       (head sent : RequestHead) (reused closed : Bool) (before : List ℕ) (raised e : Error)
       → IsRelayable head → Sends s.called head sent → StandsIn s.called began f.calls
@@ -309,6 +310,7 @@ pub record IsRelayedWhole
   pub began : List LogEntry
   pub stands : StandsIn s.called began f.calls
   pub relayed : IsRelayed f (origin_at s head sent start.reused began) p link start
+  pub speaks : SpeaksBytes start
   -- where both heads agree, and the filters changed nothing, the request does not end short
   pub unshort : Agrees head sent → AreNeutral f.calls
       → ¬ (SendsShort (origin_at s head sent start.reused began) relayed.order.taken)
@@ -344,6 +346,7 @@ pub record IsRelayedEarly
   pub began : List LogEntry
   pub stands : StandsIn s.called began f.calls
   pub early : EndsEarly f (origin_at s head sent start.reused began) p link start
+  pub speaks : SpeaksBytes start
   -- no call of the client's link failed
   pub calm : w.client.faults ≡ s.faults
   -- the link is kept only where it may serve another request
@@ -386,6 +389,7 @@ pub record HasFailed
   pub stands : StandsIn s.called began f.calls
   pub why : FailsFor f (origin_at s head sent start.reused began) (past_at p before) client link
       start raised
+  pub speaks : SpeaksBytes start
   pub over : IsOver s client treated.e e
 
 -- what was queued for the client in it, and then the answer to its error
@@ -401,7 +405,7 @@ pub record IsRefusedAhead (s : Start) (p : Passed) (link : LinkState) (start : L
   pub head : RequestHead
   pub accepted : IsAccepted s p head
   pub raised : Error
-  pub refused : RefusesToSend s.called head keep raised
+  pub refused : RefusesToSend s.called start head keep raised
   pub treated : IsTreated s.called raised e
   pub told : IsAnswered s.closed e
   pub over : ¬ (MayTry s.most (1 + made_before s) e)
@@ -454,6 +458,7 @@ pub record IsPartRelayed (s : Start) (p : Passed) (link : LinkState) (start : Li
   pub stands : StandsIn s.called began f.calls
   pub refused : Option Error
   pub order : IsInOrderWith refused f (origin_at s head sent start.reused began) p link.ended
+  pub speaks : SpeaksBytes start
 
 -- the same of an attempt that failed with that error: a part of what the client is owed
 pub record IsPartAnswered

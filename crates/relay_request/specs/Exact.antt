@@ -5,7 +5,7 @@ use Rattle.relay_tasks.specs.declared.Error.{Error}
 use Rattle.relay_tasks.specs.declared.log.LogEntry.{LogEntry}
 use Rattle.relay_links.specs.Count.{Rose}
 use Rattle.relay_links.specs.Link.{LinkState, LinkStart}
-use Rattle.relay_links.specs.declared.Returned.{Returned}
+use Rattle.relay_connector.specs.declared.Returned.{Returned}
 use Rattle.relay_calls.specs.Log.{filters_request, filters_response, is_module_response}
 use Rattle.relay_attempt.specs.Agrees.{Agrees, AsksAlike}
 use Rattle.relay_attempt.specs.Passed.{Passed}
@@ -88,7 +88,8 @@ module _ {L : Type 0} (state : L → LinkState) (start_at : L → LinkStart) whe
     -- sent that agrees with it; and a valid response to whatever head is sent of it, with no fault;
     -- and the filters changed nothing
     pub whole : (head : RequestHead) → IsRelayable head → PassesHooks s p w → LeaveAll s.called
-        → ((keep : Bool) (e : Error) → ¬ (RefusesToSend s.called head keep e))
+        → ((r : Returned L) (keep : Bool) (e : Error) → own ≡ r ∷ []
+        → ¬ (RefusesToSend s.called (start_at r.link) head keep e))
         → ((sent : RequestHead) → Sends s.called head sent → Agrees head sent)
         → AsksFor (origin_of s head head false) p w.client
         → ((r : Returned L) (sent : RequestHead) → own ≡ r ∷ [] → Sends s.called head sent

@@ -6,10 +6,11 @@ use Rattle.relay_tasks.specs.Head.{RequestHead}
 use Rattle.relay_tasks.specs.declared.Error.{Error}
 use Rattle.relay_tasks.specs.declared.hook.Hook.TheVariants as hook
 use Rattle.relay_tasks.specs.declared.log.LogEntry.{LogEntry}
-use Rattle.relay_links.specs.Connector.{Offer}
+use Rattle.relay_connector.specs.Connector.{GetResult, handed}
+use Rattle.relay_connector.specs.Upstream.{SpeaksBytes}
 use Rattle.relay_links.specs.Link.{LinkState, LinkStart, IsHandedOut}
 use Rattle.relay_links.specs.Told.{Since}
-use Rattle.relay_links.specs.declared.Returned.{Returned}
+use Rattle.relay_connector.specs.declared.Returned.{Returned}
 use Rattle.relay_opening.specs.Told.{head_behind}
 use Rattle.relay_phases.specs.Turns.{wrote_in}
 use Rattle.relay_peer.specs.Body.{IsFrontOf}
@@ -47,10 +48,10 @@ pub data FailsAgain (s : Start) (p : Passed) (client link : LinkState) (start : 
       → (why : FailsFor f (origin_at s head sent start.reused began) (past_at p before) client link
       start raised)
       → has_head (text_of (order_of why)).place ≡ false
-      → p.written ≡ (text_of (order_of why)).text → keep ≡ false
+      → p.written ≡ (text_of (order_of why)).text → SpeaksBytes start → keep ≡ false
       → FailsAgain s p client link start keep e
   ahead_of_it : (head : RequestHead) (raised : Error) → IsAccepted s p head
-      → RefusesToSend s.called head keep raised → IsTreated s.called raised e
+      → RefusesToSend s.called start head keep raised → IsTreated s.called raised e
       → IsHandedOut link start start.reused → IsUnsent p → p.written ≡ []
       → FailsAgain s p client link start keep e
 
@@ -125,16 +126,16 @@ behind s (leg ∷ legs) = behind (rebased s leg) legs
 
 -- what a request had taken of its connector behind one of them: the refusals of all attempts so
 -- far, and its link
-abbrev pub taken_to : {L : Type 0} → (L → LinkStart) → Leg L → List Offer
+abbrev pub taken_to : {L : Type 0} → (L → LinkStart) → Leg L → List GetResult
 taken_to start leg =
-    map Err (faults_told leg.tries) ++ Ok (start leg.back.link).items ∷ []
+    map Err (faults_told leg.tries) ++ Ok (handed (start leg.back.link)) ∷ []
 
 -- and what was taken in it
-abbrev pub taken_in : {L : Type 0} → (L → LinkStart) → Leg L → List Offer
+abbrev pub taken_in : {L : Type 0} → (L → LinkStart) → Leg L → List GetResult
 taken_in start leg = drop (length (faults_told leg.start.tried)) (taken_to start leg)
 
 -- and in all of them
-abbrev pub taken_by : {L : Type 0} → (L → LinkStart) → List (Leg L) → List Offer
+abbrev pub taken_by : {L : Type 0} → (L → LinkStart) → List (Leg L) → List GetResult
 taken_by start [] = []
 taken_by start (leg ∷ legs) = taken_in start leg ++ taken_by start legs
 

@@ -5,7 +5,8 @@ use Rattle.relay_tasks.specs.declared.Error.{Error}
 use Rattle.relay_tasks.specs.declared.Fault.{Fault}
 use Rattle.relay_tasks.specs.declared.log.LogEntry.{LogEntry}
 use Rattle.relay_links.specs.Link.{LinkState, LinkStart, IsHandedOut}
-use Rattle.relay_links.specs.declared.Returned.{Returned}
+use Rattle.relay_connector.specs.Upstream.{SpeaksBytes}
+use Rattle.relay_connector.specs.declared.Returned.{Returned}
 use Rattle.relay_opening.specs.Told.{head_behind}
 use Rattle.relay_phases.specs.Turns.{wrote_in}
 use Rattle.relay_session.specs.Asked.{request_of}
@@ -85,6 +86,7 @@ pub record IsPreparing (s : Start) (p : Passed) (w : World) (link : LinkState) (
     (session : HttpSession) (lease : Lease) : Type 0 where
   pub connecting : IsConnecting s p w session (tries_in lease)
   pub fresh : IsHandedOut link start lease.reused
+  pub speaks : SpeaksBytes start
 
 -- informational heads wait for the client, and nothing else keeps another attempt from beginning
 -- with the session: the body is kept, and no final head was queued
@@ -115,6 +117,7 @@ pub record LeavesSession (s : Start) (p : Passed) (client : LinkState) (ahead : 
   pub stands : StandsIn s.called began f.calls
   pub why : FailsFor f (origin_at s head sent start.reused began) (past_at p before) client link
       start e
+  pub speaks : SpeaksBytes start
   pub answers : session.writing.request ≡ request_of head
   pub holds : Holds session.writing ((order_of why).queued ++ (order_of why).closing) p.written
   pub broken : (fault : Fault) → session.writing.output ≡ outgoing.Broken fault
@@ -136,7 +139,7 @@ pub record LeavesAhead (s : Start) (p : Passed) (w : World) (link : LinkState) (
   pub connecting : IsConnecting s p w session (tries_in lease)
   pub leased : IsLeased s p link start lease
   pub fresh : IsHandedOut link start lease.reused
-  pub why : RefusesToSend s.called connecting.head keep e
+  pub why : RefusesToSend s.called start connecting.head keep e
 
 -- an attempt failed with that error, which is to be treated, over a link that is kept then or not:
 -- in its exchange, or ahead of it
@@ -165,6 +168,7 @@ module _ {L C : Type 0} (state : L → LinkState) (start_at : L → LinkStart) w
     pub sent : RequestHead
     pub relayable : IsRelayable head
     pub sends : Sends s.called head sent
+    pub speaks : SpeaksBytes (start_at (link_of a.exchange))
     -- its exchange began behind these calls, the last of which filtered the head that is sent; and
     -- all that were made since are those of its filters
     pub began : List LogEntry

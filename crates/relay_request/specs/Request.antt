@@ -2,13 +2,13 @@
 -- call promises.
 use Rattle.std.specs.Global.{Box}
 use Rattle.std.specs.Prelude.{◌≡◌, ◌≢◌, ℕ, ◌+◌, ◌≤◌, ◌⊎◌, Bool, true, false, ◌&&◌, not, List, [], ◌∷◌, ◌++◌, drop, length, map, Option, None}
-use Rattle.relay_links.specs.Connector.{Offer}
+use Rattle.relay_connector.specs.Connector.{GetResult, Offer, Takes}
 use Rattle.relay_links.specs.Count.{up}
 use Rattle.relay_links.specs.Link.{LinkState, LinkStart}
 use Rattle.relay_links.specs.Told.{more, Gains}
 use Rattle.relay_tasks.specs.declared.Fault.{Fault}
 use Rattle.relay_tasks.specs.declared.took.Pause.TheVariants.{NotReady, Silent}
-use Rattle.relay_links.specs.declared.Returned.{Returned}
+use Rattle.relay_connector.specs.declared.Returned.{Returned}
 use Rattle.relay_session.specs.declared.session.HttpSession.{HttpSession}
 use Rattle.relay_attempt.specs.Passed.{Passed}
 use Rattle.relay_request.specs.Passed.{World, Start}
@@ -16,7 +16,7 @@ use Rattle.relay_request.specs.Bound.{IsBounded, IsWithin, LinkGave, OwnGave, Ph
 use Rattle.relay_request.specs.Endings.{IsEnded}
 use Rattle.relay_request.specs.Exact.{IsExact}
 use Rattle.relay_request.specs.Legs.{AreLegs, BeginsAt, IsLeg, Leg, LegsUse, LegsWithin, behind, rebased, taken_by, taken_to}
-use Rattle.relay_request.specs.Taken.{Takes, TakesOn, offers_for, offers_before}
+use Rattle.relay_request.specs.Taken.{TakesOn, offers_for, offers_before}
 use Rattle.relay_request.specs.Phases.{RunSoFar}
 use Rattle.relay_request.specs.Refusals.{faults_for, faults_before, faults_told, AnswersFaults}
 use Rattle.relay_request.specs.Turn.{IsStalled, is_over}
@@ -136,7 +136,7 @@ module _ {L C : Type 0} (state : L → LinkState) (start_at : L → LinkStart) w
     pub passed : Passed
     pub run : RunSoFar state start_at (rebased t leg) passed w [] next
     pub refused : AnswersFaults told_before told_after [] phase [] next
-    pub taken : List Offer
+    pub taken : List GetResult
     pub takes : Takes had taken has
     pub offered : offers_before start_at [] phase ++ taken ≡ taken_to start_at leg
     -- so often were both links asked

@@ -3,14 +3,19 @@
 use Rattle.std.specs.Prelude.{◌≡◌, ◌⊎◌, Bool, true, false, not, ◌&&◌, ◌||◌, List, [], ◌∷◌, ◌++◌, Option, Some, None, Result, Ok, Err}
 use Rattle.std.specs.List.{list_any}
 use Rattle.relay_tasks.specs.Head.{RequestHead}
+use Rattle.relay_tasks.specs.Error.{new_error}
 use Rattle.relay_tasks.specs.declared.Context.TheVariants.{BadFraming}
 use Rattle.relay_tasks.specs.declared.Error.{Error}
-use Rattle.relay_tasks.specs.declared.ErrorSource.TheVariants.{Internal}
+use Rattle.relay_tasks.specs.declared.ErrorSource.{ErrorSource}
+use Rattle.relay_tasks.specs.declared.ErrorSource.TheVariants.{Internal, Upstream}
+use Rattle.relay_tasks.specs.declared.ErrorType.TheVariants as kind
 use Rattle.relay_tasks.specs.Hooks.{same_hook}
 use Rattle.relay_tasks.specs.declared.hook.Hook.{Hook}
 use Rattle.relay_tasks.specs.declared.hook.Hook.TheVariants as hook
 use Rattle.relay_tasks.specs.declared.log.Item.TheVariants as item
 use Rattle.relay_tasks.specs.declared.log.LogEntry.{LogEntry}
+use Rattle.relay_links.specs.Link.{LinkStart}
+use Rattle.relay_connector.specs.Upstream.{SpeaksBytes}
 use Rattle.relay_authority.specs.Upstream.{ReadyHead, SentHead}
 use Rattle.relay_authority.specs.declared.upstream.Client.{Client}
 use Rattle.relay_authority.specs.declared.upstream.Upstream.TheVariants as over
@@ -144,17 +149,25 @@ pub record FailsAt (which : Hook) (called : List LogEntry) (e : Error) : Type 0 
   pub is_of_it : last.hook ≡ which
   pub error : last.error ≡ Some e
 
+-- the error of a request that is not relayed
+abbrev pub unrelayed : ErrorSource → Error
+unrelayed side = new_error (kind.Custom 1) side
+
 -- why an attempt that has a link sends no head, and whether that link is kept: the application
--- failed as it was told of the link; the filter failed; what it left is refused; or what was kept of
--- the body did not pass one of its filters, the application's or the modules'
-pub data RefusesToSend (called : List LogEntry) (head : RequestHead) (keep : Bool) (e : Error)
-    : Type 0 where
+-- failed as it was told of the link; the link carries messages, over which nothing is relayed yet;
+-- the filter failed; what it left is refused; or what was kept of the body did not pass one of its
+-- filters, the application's or the modules'
+pub data RefusesToSend (called : List LogEntry) (start : LinkStart) (head : RequestHead)
+    (keep : Bool) (e : Error) : Type 0 where
   untold : FailsAt hook.ConnectedToUpstream called e → keep ≡ false
-      → RefusesToSend called head keep e
-  unfiltered : FailsAt hook.UpstreamRequestFilter called e → keep ≡ true
-      → RefusesToSend called head keep e
-  unsettled : (filtered : RequestHead) → (filters : Filters called head filtered)
+      → RefusesToSend called start head keep e
+  unspoken : ¬ (SpeaksBytes start) → e ≡ unrelayed Upstream → keep ≡ false
+      → RefusesToSend called start head keep e
+  unfiltered : SpeaksBytes start → FailsAt hook.UpstreamRequestFilter called e → keep ≡ true
+      → RefusesToSend called start head keep e
+  unsettled : SpeaksBytes start → (filtered : RequestHead) → (filters : Filters called head filtered)
       → SettlesFramed (client_of head) (asked_in filters) filtered (Err e) → keep ≡ true
-      → RefusesToSend called head keep e
-  unpassed : FailsAt hook.RequestBodyFilter called e ⊎ FailsAt hook.ModuleRequestBody called e
-      → keep ≡ true → RefusesToSend called head keep e
+      → RefusesToSend called start head keep e
+  unpassed : SpeaksBytes start
+      → FailsAt hook.RequestBodyFilter called e ⊎ FailsAt hook.ModuleRequestBody called e
+      → keep ≡ true → RefusesToSend called start head keep e

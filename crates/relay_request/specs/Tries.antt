@@ -13,7 +13,7 @@ use Rattle.relay_tasks.specs.declared.hook.Hook.TheVariants as hook
 use Rattle.relay_tasks.specs.declared.log.Item.{Item}
 use Rattle.relay_tasks.specs.declared.log.Item.TheVariants as item
 use Rattle.relay_tasks.specs.declared.log.LogEntry.{LogEntry}
-use Rattle.relay_links.specs.Connector.{IsConnectFault, connect_fault}
+use Rattle.relay_connector.specs.Connector.{IsConnectFault, connect_fault}
 use Rattle.relay_request.specs.Named.{IsNamed, or_before, peer_of}
 use Rattle.relay_request.specs.Passed.{Start}
 use Rattle.relay_request.specs.declared.machine.Lease.{Lease}

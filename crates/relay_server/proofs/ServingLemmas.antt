@@ -8,10 +8,10 @@ use Rattle.std.proofs.lemmas.List.Sorted.{IsPermutation-refl, IsPermutation-sym,
 use Rattle.relay_tasks.specs.declared.Error.{Error}
 use Rattle.relay_tasks.specs.declared.Fault.{Fault}
 use Rattle.relay_tasks.specs.declared.log.LogEntry.{LogEntry}
-use Rattle.relay_links.specs.Connector.{Offer}
+use Rattle.relay_connector.specs.Connector.{Offer}
 use Rattle.relay_links.specs.Link.{LinkState, LinkStart}
 use Rattle.relay_links.specs.Told.{more}
-use Rattle.relay_links.specs.declared.Returned.{Returned}
+use Rattle.relay_connector.specs.declared.Returned.{Returned}
 use Rattle.relay_modules.specs.Module.{ModuleCall}
 use Rattle.relay_hooks.specs.Standing.{Standing}
 use Rattle.relay_core.specs.Past.{Origin}
@@ -256,6 +256,7 @@ linked_later s p client ahead f g link start keep told None reuse (inl whole) = 
   began = whole.began;
   stands = whole.stands;
   relayed = whole.relayed;
+  speaks = whole.speaks;
   unshort = whole.unshort;
   calm = whole.calm;
   kept = whole.kept;
@@ -276,6 +277,7 @@ linked_later s p client ahead f g link start keep told None reuse (inr early) = 
   began = early.began;
   stands = early.stands;
   early = early.early;
+  speaks = early.speaks;
   calm = early.calm;
   kept = early.kept;
   faultless = early.faultless;
@@ -384,6 +386,7 @@ module _ {L C : Type 0} (state : L → LinkState) (start_at : L → LinkStart) w
       connecting = connecting_later s p link ahead f g session.value (tries_in lease)
           at.1.connecting;
       fresh = at.1.fresh;
+      speaks = at.1.speaks;
     },
   )
   at_later s p link ahead f g (Relay a) here going more_faults at = record {
@@ -392,6 +395,7 @@ module _ {L C : Type 0} (state : L → LinkState) (start_at : L → LinkStart) w
     sent = at.sent;
     relayable = at.relayable;
     sends = at.sends;
+    speaks = at.speaks;
     began = at.began;
     at_sent = at.at_sent;
     under_way = at.under_way;

@@ -2,7 +2,7 @@
 -- section 9.5).
 use Rattle.std.specs.Prelude.{◌≡◌, ◌⊎◌, ℕ, Bool, true, ◌&&◌, ◌==◌, List, [], ◌∷◌, ◌++◌, length, Some}
 use Rattle.std.specs.List.{insert, position}
-use Rattle.relay_links.specs.declared.Returned.{Returned}
+use Rattle.relay_connector.specs.declared.Returned.{Returned}
 use Rattle.relay_attempt.specs.Passed.{Passed}
 use Rattle.relay_request.specs.Passed.{Start, IsUnsent, asked}
 use Rattle.relay_request.specs.Turn.{is_reading_head}

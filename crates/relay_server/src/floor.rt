@@ -4,7 +4,8 @@ ghost use Rattle.std.specs.List.{insert, position};
 ghost use Rattle.relay_server.specs.Idle.{is_idle};
 
 use crate::open_connection::OpenConnection;
-use relay_links::{ByteLink, Connector};
+use relay_connector::Connector;
+use relay_links::ByteLink;
 use relay_proxy::ProxyHttp;
 use std::alloc::{AllocError, Global};
 use std::collections::VecDeque;
@@ -23,9 +24,10 @@ pub(crate) struct Floor<SV: ProxyHttp, K: Connector, D> {
 impl<SV: ProxyHttp, K: Connector, D> Model for Floor<SV, K, D> {
     ghost use Rattle.std.specs.Prelude.{List, map, ◌≤◌};
     ghost use Rattle.std.specs.VecDeque.{deque_capacity};
+    ghost use Rattle.relay_connector.specs.declared.upstream.Upstream.{Upstream};
     ghost use Rattle.relay_server.specs.Serving.{Visit};
 
-    ghost Value = { List (Visit D SV.Kept K.Byte SV.CTX SV.Modules) };
+    ghost Value = { List (Visit D SV.Kept (Upstream K.Byte K.Message K.Custom) SV.CTX SV.Modules) };
 
     ghost view = { λ f. map (λ b. b.value) f.connections.items };
 

@@ -11,8 +11,9 @@ ghost use Rattle.relay_server.specs.Serving.{Books, Visit, books, CountRises, al
 
 use crate::serving_schedule::ServingSchedule;
 use crate::stillness::Stillness;
+use relay_connector::{Connector, LinkOf};
 use relay_h1::Connection;
-use relay_links::{ByteLink, Connector, CountDelay, Purger, Schedule, ShutdownAt};
+use relay_links::{ByteLink, CountDelay, Purger, Schedule, ShutdownAt};
 use relay_proxy::{HttpProxy, Outcome, Outside, ProxyHttp, RequestMachine, RunStep};
 use std::alloc::Global;
 use std::marker::Model;
@@ -29,9 +30,10 @@ pub(crate) struct OpenConnection<SV: ProxyHttp, K: Connector, D> {
 }
 
 impl<SV: ProxyHttp, K: Connector, D> Model for OpenConnection<SV, K, D> {
+    ghost use Rattle.relay_connector.specs.declared.upstream.Upstream.{Upstream};
     ghost use Rattle.relay_server.specs.Serving.{Visit};
 
-    ghost Value = { Visit D SV.Kept K.Byte SV.CTX SV.Modules };
+    ghost Value = { Visit D SV.Kept (Upstream K.Byte K.Message K.Custom) SV.CTX SV.Modules };
 
     ghost view = { λ o. record {
       client = o.client;
@@ -49,15 +51,16 @@ impl<SV: ProxyHttp, K: Connector, D: ByteLink> OpenConnection<SV, K, D> {
         link: D,
     ) -> OpenConnection<SV, K, D>
         ensures serves { (before : Books _) (rest : List (Visit _ _ _ _ _))
-            → Serves K.Byte.state K.Byte.start D.state
+            → Serves ⟦<LinkOf<K> as ByteLink>⟧.state ⟦<LinkOf<K> as ByteLink>⟧.start D.state
             (allowed_by (SV.allows proxy.now.inner) SV.Modules.allows)
             (SV.mark_of proxy.now.inner) before
             (books K.returned K.fault_count proxy.now) rest
-            → Serves K.Byte.state K.Byte.start D.state
+            → Serves ⟦<LinkOf<K> as ByteLink>⟧.state ⟦<LinkOf<K> as ByteLink>⟧.start D.state
             (allowed_by (SV.allows proxy.now.inner) SV.Modules.allows)
             (SV.mark_of proxy.now.inner) before
             (books K.returned K.fault_count proxy.now) (result ∷ rest) }
-        ensures no_link { links_held K.Byte.state K.Byte.start result.phase ≡ 0 }
+        ensures no_link { links_held ⟦<LinkOf<K> as ByteLink>⟧.state ⟦<LinkOf<K> as ByteLink>⟧.start
+            result.phase ≡ 0 }
     {
         let mut client = Connection::new(alloc, link);
         let machine = proxy.begin(&mut client, None);
@@ -92,7 +95,8 @@ impl<SV: ProxyHttp, K: Connector, D: ByteLink> OpenConnection<SV, K, D> {
         ensures exact { result ≡ is_idle self.now }
         // Nothing was asked, and nothing was done.
         ensures unbegun { (faults : ℕ) (s : Start) (p : Passed) (own : List _)
-            → is_idle self.now ≡ true → RunSoFar K.Byte.state K.Byte.start s p
+            → is_idle self.now ≡ true → RunSoFar ⟦<LinkOf<K> as ByteLink>⟧.state
+            ⟦<LinkOf<K> as ByteLink>⟧.start s p
             (world_of D.state self.now.client faults) own self.now.phase → HasNotBegun s p own }
         // Nor was a hook called, whatever the application.
         ensures uncalled { (app : SV) → is_idle self.now ≡ true
@@ -104,29 +108,32 @@ impl<SV: ProxyHttp, K: Connector, D: ByteLink> OpenConnection<SV, K, D> {
 
     /// Takes one turn of the request, and tells what it did.
     pub(crate) fn step<P: Purger>(&mut self, proxy: &mut HttpProxy<SV, K, P>) -> RunStep
-        requires { links_held K.Byte.state K.Byte.start self.old.phase ≤ K.out proxy.old.connector }
+        requires { links_held ⟦<LinkOf<K> as ByteLink>⟧.state ⟦<LinkOf<K> as ByteLink>⟧.start
+            self.old.phase ≤ K.out proxy.old.connector }
         ensures goes { (before : Books _) (rest : List (Visit _ _ _ _ _)) → is_end result ≡ false
-            → Serves K.Byte.state K.Byte.start D.state
+            → Serves ⟦<LinkOf<K> as ByteLink>⟧.state ⟦<LinkOf<K> as ByteLink>⟧.start D.state
             (allowed_by (SV.allows proxy.old.inner) SV.Modules.allows)
             (SV.mark_of proxy.old.inner) before
             (books K.returned K.fault_count proxy.old) (self.old ∷ rest)
-            → Serves K.Byte.state K.Byte.start D.state
+            → Serves ⟦<LinkOf<K> as ByteLink>⟧.state ⟦<LinkOf<K> as ByteLink>⟧.start D.state
             (allowed_by (SV.allows proxy.new.inner) SV.Modules.allows)
             (SV.mark_of proxy.new.inner) before
             (books K.returned K.fault_count proxy.new) (self.new ∷ rest) }
         ensures ends { (before : Books _) (rest : List (Visit _ _ _ _ _)) → is_end result ≡ true
-            → Serves K.Byte.state K.Byte.start D.state
+            → Serves ⟦<LinkOf<K> as ByteLink>⟧.state ⟦<LinkOf<K> as ByteLink>⟧.start D.state
             (allowed_by (SV.allows proxy.old.inner) SV.Modules.allows)
             (SV.mark_of proxy.old.inner) before
             (books K.returned K.fault_count proxy.old) (self.old ∷ rest)
-            → EndsOne K.Byte.state K.Byte.start D.state
+            → EndsOne ⟦<LinkOf<K> as ByteLink>⟧.state ⟦<LinkOf<K> as ByteLink>⟧.start D.state
             (allowed_by (SV.allows proxy.new.inner) SV.Modules.allows)
             (SV.mark_of proxy.new.inner) before
             (books K.returned K.fault_count proxy.new) self.new rest }
         ensures held { K.out proxy.new.connector
-            + links_held K.Byte.state K.Byte.start self.old.phase
+            + links_held ⟦<LinkOf<K> as ByteLink>⟧.state ⟦<LinkOf<K> as ByteLink>⟧.start
+            self.old.phase
             ≡ K.out proxy.old.connector
-            + links_held K.Byte.state K.Byte.start self.new.phase }
+            + links_held ⟦<LinkOf<K> as ByteLink>⟧.state ⟦<LinkOf<K> as ByteLink>⟧.start
+            self.new.phase }
         ensures same { proxy.new ≡ record proxy.old {
           connector = proxy.new.connector;
           purger = proxy.new.purger;
@@ -142,20 +149,22 @@ impl<SV: ProxyHttp, K: Connector, D: ByteLink> OpenConnection<SV, K, D> {
         self,
         proxy: &mut HttpProxy<SV, K, P>,
     ) -> AfterRequest<OpenConnection<SV, K, D>, D>
-        requires { links_held K.Byte.state K.Byte.start self.phase ≤ K.out proxy.old.connector }
+        requires { links_held ⟦<LinkOf<K> as ByteLink>⟧.state ⟦<LinkOf<K> as ByteLink>⟧.start
+            self.phase ≤ K.out proxy.old.connector }
         ensures serves { (before : Books _) (rest : List (Visit _ _ _ _ _))
-            → EndsOne K.Byte.state K.Byte.start D.state
+            → EndsOne ⟦<LinkOf<K> as ByteLink>⟧.state ⟦<LinkOf<K> as ByteLink>⟧.start D.state
             (allowed_by (SV.allows proxy.old.inner) SV.Modules.allows)
             (SV.mark_of proxy.old.inner) before
             (books K.returned K.fault_count proxy.old) self rest
-            → Serves K.Byte.state K.Byte.start D.state
+            → Serves ⟦<LinkOf<K> as ByteLink>⟧.state ⟦<LinkOf<K> as ByteLink>⟧.start D.state
             (allowed_by (SV.allows proxy.new.inner) SV.Modules.allows)
             (SV.mark_of proxy.new.inner) before
             (books K.returned K.fault_count proxy.new)
             (with_next result rest) }
-        ensures held { K.out proxy.new.connector + links_held K.Byte.state K.Byte.start self.phase
+        ensures held { K.out proxy.new.connector + links_held ⟦<LinkOf<K> as ByteLink>⟧.state
+            ⟦<LinkOf<K> as ByteLink>⟧.start self.phase
             ≡ K.out proxy.old.connector }
-        ensures no_link { all_held K.Byte.state K.Byte.start
+        ensures no_link { all_held ⟦<LinkOf<K> as ByteLink>⟧.state ⟦<LinkOf<K> as ByteLink>⟧.start
             (with_next result []) ≡ 0 }
         // The next one is handed the value that this one kept.
         ensures kept { IsHanded self.calls.at result }
@@ -189,17 +198,19 @@ impl<SV: ProxyHttp, K: Connector, D: ByteLink> OpenConnection<SV, K, D> {
 
     /// Gives the connection up while its request is under way, and answers its link.
     pub(crate) fn give_up<P: Purger>(self, proxy: &mut HttpProxy<SV, K, P>) -> D
-        requires { links_held K.Byte.state K.Byte.start self.phase ≤ K.out proxy.old.connector }
+        requires { links_held ⟦<LinkOf<K> as ByteLink>⟧.state ⟦<LinkOf<K> as ByteLink>⟧.start
+            self.phase ≤ K.out proxy.old.connector }
         ensures serves { (before : Books _) (rest : List (Visit _ _ _ _ _))
-            → Serves K.Byte.state K.Byte.start D.state
+            → Serves ⟦<LinkOf<K> as ByteLink>⟧.state ⟦<LinkOf<K> as ByteLink>⟧.start D.state
             (allowed_by (SV.allows proxy.old.inner) SV.Modules.allows)
             (SV.mark_of proxy.old.inner) before
             (books K.returned K.fault_count proxy.old) (self ∷ rest)
-            → Serves K.Byte.state K.Byte.start D.state
+            → Serves ⟦<LinkOf<K> as ByteLink>⟧.state ⟦<LinkOf<K> as ByteLink>⟧.start D.state
             (allowed_by (SV.allows proxy.new.inner) SV.Modules.allows)
             (SV.mark_of proxy.new.inner) before
             (books K.returned K.fault_count proxy.new) rest }
-        ensures held { K.out proxy.new.connector + links_held K.Byte.state K.Byte.start self.phase
+        ensures held { K.out proxy.new.connector + links_held ⟦<LinkOf<K> as ByteLink>⟧.state
+            ⟦<LinkOf<K> as ByteLink>⟧.start self.phase
             ≡ K.out proxy.old.connector }
         ensures uncounted { is_done self.phase self.calls.at ≡ false
             → proxy.new.requests_ended ≡ proxy.old.requests_ended }

@@ -13,7 +13,8 @@ ghost use Rattle.relay_server.specs.Serving.{Books, books, CountRises, all_held,
 
 use crate::floor::{Floor, MOST_OPEN};
 use crate::open_connection::{AfterRequest, OpenConnection};
-use relay_links::{Connector, Listening, Polled, Poller, Purger};
+use relay_connector::{Connector, LinkOf};
+use relay_links::{ByteLink, Listening, Polled, Poller, Purger};
 use relay_proxy::{HttpProxy, ProxyHttp, RunStep};
 use std::alloc::Global;
 use std::sync::Wait;
@@ -64,7 +65,7 @@ pub fn serve_with<R: Wait, SV: ProxyHttp, K: Connector, P: Purger, O: Poller>(
     ensures served { proxy.old.requests_ended + result.served ≡ proxy.new.requests_ended }
     // Each request that was counted came to its end as the proxy promises, by calls of hooks that
     // the application allows, and gave its link back.
-    ensures requests { HaveEnded K.Byte.state K.Byte.start
+    ensures requests { HaveEnded ⟦<LinkOf<K> as ByteLink>⟧.state ⟦<LinkOf<K> as ByteLink>⟧.start
         (allowed_by (SV.allows proxy.old.inner) SV.Modules.allows)
         (books K.returned K.fault_count proxy.old) proxy.new.requests_ended
         (K.returned proxy.new.connector) [] }
@@ -124,7 +125,8 @@ fn serve_floor<R: Wait, SV: ProxyHttp, K: Connector, P: Purger, O: Poller>(
     requests: u64,
 ) -> Stop
     requires { floor.old ≡ [] }
-    ensures goes { ServesOn K.Byte.state K.Byte.start O.Stream.state SV.allows
+    ensures goes { ServesOn ⟦<LinkOf<K> as ByteLink>⟧.state ⟦<LinkOf<K> as ByteLink>⟧.start
+        O.Stream.state SV.allows
         SV.Modules.allows SV.mark_of K.returned K.out K.fault_count
         proxy.old proxy.new floor.old floor.new }
     ensures done { result ≡ Stop.Done
@@ -176,7 +178,8 @@ fn accept_all<SV: ProxyHttp, K: Connector, P: Purger, O: Poller>(
     floor: &mut Floor<SV, K, O::Stream>,
 )
     requires few { length floor.old ≤ 64 }
-    ensures goes { ServesOn K.Byte.state K.Byte.start O.Stream.state SV.allows
+    ensures goes { ServesOn ⟦<LinkOf<K> as ByteLink>⟧.state ⟦<LinkOf<K> as ByteLink>⟧.start
+        O.Stream.state SV.allows
         SV.Modules.allows SV.mark_of K.returned K.out K.fault_count
         proxy.old proxy.new floor.old floor.new }
     ensures few { length floor.new ≤ 64 }
@@ -201,8 +204,10 @@ fn replace_idle<SV: ProxyHttp, K: Connector, P: Purger, O: Poller>(
     floor: &mut Floor<SV, K, O::Stream>,
 ) -> bool
     requires few { length floor.old ≤ 64 }
-    requires held { all_held K.Byte.state K.Byte.start floor.old ≤ K.out proxy.old.connector }
-    ensures goes { ServesOn K.Byte.state K.Byte.start O.Stream.state SV.allows
+    requires held { all_held ⟦<LinkOf<K> as ByteLink>⟧.state ⟦<LinkOf<K> as ByteLink>⟧.start
+        floor.old ≤ K.out proxy.old.connector }
+    ensures goes { ServesOn ⟦<LinkOf<K> as ByteLink>⟧.state ⟦<LinkOf<K> as ByteLink>⟧.start
+        O.Stream.state SV.allows
         SV.Modules.allows SV.mark_of K.returned K.out K.fault_count
         proxy.old proxy.new floor.old floor.new }
     ensures stays { result ≡ false → floor.new ≡ floor.old }
@@ -235,8 +240,10 @@ fn give_way<SV: ProxyHttp, K: Connector, P: Purger, O: Poller>(
     place: usize,
 )
     requires idle { position is_idle floor.old ≡ Some place }
-    requires held { all_held K.Byte.state K.Byte.start floor.old ≤ K.out proxy.old.connector }
-    ensures goes { ServesOn K.Byte.state K.Byte.start O.Stream.state SV.allows
+    requires held { all_held ⟦<LinkOf<K> as ByteLink>⟧.state ⟦<LinkOf<K> as ByteLink>⟧.start
+        floor.old ≤ K.out proxy.old.connector }
+    ensures goes { ServesOn ⟦<LinkOf<K> as ByteLink>⟧.state ⟦<LinkOf<K> as ByteLink>⟧.start
+        O.Stream.state SV.allows
         SV.Modules.allows SV.mark_of K.returned K.out K.fault_count
         proxy.old proxy.new floor.old floor.new }
     ensures gives_way { GivesWay floor.old floor.new }
@@ -260,9 +267,11 @@ fn keep<SV: ProxyHttp, K: Connector, P: Purger, O: Poller>(
     connection: OpenConnection<SV, K, O::Stream>,
 )
     requires room { length floor.old < 64 }
-    requires held { links_held K.Byte.state K.Byte.start connection.phase
+    requires held { links_held ⟦<LinkOf<K> as ByteLink>⟧.state ⟦<LinkOf<K> as ByteLink>⟧.start
+        connection.phase
         ≤ K.out proxy.old.connector }
-    ensures goes { ServesOn K.Byte.state K.Byte.start O.Stream.state SV.allows
+    ensures goes { ServesOn ⟦<LinkOf<K> as ByteLink>⟧.state ⟦<LinkOf<K> as ByteLink>⟧.start
+        O.Stream.state SV.allows
         SV.Modules.allows SV.mark_of K.returned K.out K.fault_count
         proxy.old proxy.new (connection ∷ floor.old) floor.new }
     ensures last { IsPutLast floor.old floor.new }
@@ -288,10 +297,12 @@ fn go_round<SV: ProxyHttp, K: Connector, P: Purger, O: Poller>(
     woken: bool,
 ) -> bool
     requires few { length floor.old ≤ 64 }
-    requires held { all_held K.Byte.state K.Byte.start floor.old ≤ K.out proxy.old.connector }
+    requires held { all_held ⟦<LinkOf<K> as ByteLink>⟧.state ⟦<LinkOf<K> as ByteLink>⟧.start
+        floor.old ≤ K.out proxy.old.connector }
     requires counted { (before ≤ proxy.old.requests_ended)
         × (proxy.old.requests_ended ≤ last_count) }
-    ensures goes { ServesOn K.Byte.state K.Byte.start O.Stream.state SV.allows
+    ensures goes { ServesOn ⟦<LinkOf<K> as ByteLink>⟧.state ⟦<LinkOf<K> as ByteLink>⟧.start
+        O.Stream.state SV.allows
         SV.Modules.allows SV.mark_of K.returned K.out K.fault_count
         proxy.old proxy.new floor.old floor.new }
     ensures few { length floor.new ≤ 64 }
@@ -337,8 +348,10 @@ fn take_turn<SV: ProxyHttp, K: Connector, P: Purger, O: Poller>(
     woken: bool,
 ) -> Turn
     requires few { length floor.old ≤ 64 }
-    requires held { all_held K.Byte.state K.Byte.start floor.old ≤ K.out proxy.old.connector }
-    ensures goes { ServesOn K.Byte.state K.Byte.start O.Stream.state SV.allows
+    requires held { all_held ⟦<LinkOf<K> as ByteLink>⟧.state ⟦<LinkOf<K> as ByteLink>⟧.start
+        floor.old ≤ K.out proxy.old.connector }
+    ensures goes { ServesOn ⟦<LinkOf<K> as ByteLink>⟧.state ⟦<LinkOf<K> as ByteLink>⟧.start
+        O.Stream.state SV.allows
         SV.Modules.allows SV.mark_of K.returned K.out K.fault_count
         proxy.old proxy.new floor.old floor.new }
     ensures order { KeepsOrder result place floor.old floor.new }
@@ -380,20 +393,23 @@ fn end_taken<SV: ProxyHttp, K: Connector, P: Purger, O: Poller>(
     connection: OpenConnection<SV, K, O::Stream>,
 )
     requires room { length floor.old < 64 }
-    requires held { links_held K.Byte.state K.Byte.start connection.phase
+    requires held { links_held ⟦<LinkOf<K> as ByteLink>⟧.state ⟦<LinkOf<K> as ByteLink>⟧.start
+        connection.phase
         ≤ K.out proxy.old.connector }
     ensures serves { (before : Books _)
-        → EndsOne K.Byte.state K.Byte.start O.Stream.state
+        → EndsOne ⟦<LinkOf<K> as ByteLink>⟧.state ⟦<LinkOf<K> as ByteLink>⟧.start O.Stream.state
         (allowed_by (SV.allows proxy.old.inner) SV.Modules.allows)
         (SV.mark_of proxy.old.inner) before
         (books K.returned K.fault_count proxy.old) connection floor.old
-        → Serves K.Byte.state K.Byte.start O.Stream.state
+        → Serves ⟦<LinkOf<K> as ByteLink>⟧.state ⟦<LinkOf<K> as ByteLink>⟧.start O.Stream.state
         (allowed_by (SV.allows proxy.new.inner) SV.Modules.allows)
         (SV.mark_of proxy.new.inner) before
         (books K.returned K.fault_count proxy.new) floor.new }
     ensures held { K.out proxy.new.connector
-        + all_held K.Byte.state K.Byte.start (connection ∷ floor.old)
-        ≡ K.out proxy.old.connector + all_held K.Byte.state K.Byte.start floor.new }
+        + all_held ⟦<LinkOf<K> as ByteLink>⟧.state ⟦<LinkOf<K> as ByteLink>⟧.start (connection ∷
+        floor.old)
+        ≡ K.out proxy.old.connector + all_held ⟦<LinkOf<K> as ByteLink>⟧.state
+        ⟦<LinkOf<K> as ByteLink>⟧.start floor.new }
     ensures counted { CountRises proxy.old.requests_ended proxy.new.requests_ended }
     ensures same { proxy.new ≡ record proxy.old {
       connector = proxy.new.connector;
@@ -417,13 +433,16 @@ fn give_all_up<SV: ProxyHttp, K: Connector, P: Purger, O: Poller>(
     poller: &mut O,
     floor: &mut Floor<SV, K, O::Stream>,
 )
-    requires held { all_held K.Byte.state K.Byte.start floor.old ≤ K.out proxy.old.connector }
-    ensures goes { ServesOn K.Byte.state K.Byte.start O.Stream.state SV.allows
+    requires held { all_held ⟦<LinkOf<K> as ByteLink>⟧.state ⟦<LinkOf<K> as ByteLink>⟧.start
+        floor.old ≤ K.out proxy.old.connector }
+    ensures goes { ServesOn ⟦<LinkOf<K> as ByteLink>⟧.state ⟦<LinkOf<K> as ByteLink>⟧.start
+        O.Stream.state SV.allows
         SV.Modules.allows SV.mark_of K.returned K.out K.fault_count
         proxy.old proxy.new floor.old floor.new }
     ensures empty { floor.new ≡ [] }
     // None of them is counted.
-    ensures uncounted { (before : Books _) → Serves K.Byte.state K.Byte.start O.Stream.state
+    ensures uncounted { (before : Books _) → Serves ⟦<LinkOf<K> as ByteLink>⟧.state
+        ⟦<LinkOf<K> as ByteLink>⟧.start O.Stream.state
         (allowed_by (SV.allows proxy.old.inner) SV.Modules.allows)
         (SV.mark_of proxy.old.inner) before
         (books K.returned K.fault_count proxy.old) floor.old

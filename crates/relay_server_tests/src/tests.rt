@@ -1,5 +1,5 @@
-//! Each public call with ample memory, who gives way where all 64 seats are taken, and whole
-//! requests behind an application that counts.
+//! Each public call with ample memory, who gives way where all 64 seats are taken, whole requests
+//! behind an application that counts, and others over links of messages and links used again.
 
 mod counting;
 mod memory;
@@ -7,3 +7,4 @@ mod requests;
 mod serving_schedule;
 mod steps;
 mod support;
+mod upstreams;

@@ -8,8 +8,8 @@ ghost use Rattle.relay_session.specs.TaskWire.{ends_short};
 ghost use Rattle.relay_sides.specs.Client.{IsSide, IsLasting, BeginsBehind, begun_past, put_again, ClientBlames, ClientRefuses, CannotEnd, Queues, state_of, fault_in, piece_answer, told_read, failure_in_front};
 
 use bytes::Bytes;
-use relay_core::{Down, Piece, Told, UpKind};
-use relay_links::Put;
+use relay_core::{Down, Piece, Told};
+use relay_links::{Put, UpKind};
 use relay_session::{Front, HttpSession};
 use relay_tasks::{
     Context, Error, ErrorSource, ErrorType, Fail, Fault, HttpTask, Result, TaskList, Took,

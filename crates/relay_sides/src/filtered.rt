@@ -8,9 +8,9 @@ ghost use Rattle.relay_sides.specs.Filtered.{IsFiltered, BlamesOver, CutsOver, H
 
 use crate::client_side::either;
 use http::{Method, Version};
-use relay_core::{Told, Up, UpKind};
+use relay_core::{Told, Up};
 use relay_h1::{add_chunked, closes, is_sent_to, lacks_framing};
-use relay_links::Put;
+use relay_links::{Put, UpKind};
 use relay_tasks::{
     Context, Error, ErrorSource, ErrorType, Fail, HttpTask, RequestHeader, ResponseHeader, Result,
     Took,

@@ -1,15 +1,15 @@
 -- The links that are kept, as one is looked for from behind.
 use Rattle.std.proofs.Common.{◌≡◌, ℕ, ◌+◌, ◌-◌, ◌<◌, ◌≤◌, ◌∙◌, Bool, true, false, not, cond, List, [], ◌∷◌, ◌++◌, length, take, drop, get_or, ap, sym, refl, arith, append_assoc}
 use Rattle.std.specs.List.{remove}
-use Rattle.std.proofs.lemmas.List.{take_more, drop_more, take-append-drop, length-take-le, get_or_at, get_or_default}
-use Rattle.std.proofs.lemmas.List.Edits.{remove-append_right}
+use Rattle.std.proofs.lemmas.List.{take_more, drop_more, take-append-drop, length-append, length-take-le, get_or_at, get_or_default}
+use Rattle.std.proofs.lemmas.List.Edits.{remove-append_right, length-remove}
 use Rattle.std.proofs.lemmas.Slice.Eq.{bytes_eq-Decides}
 use Rattle.std.specs.Bool.{beq}
 use Rattle.relay_tasks.specs.declared.peer.Peer.{Peer}
 use Rattle.relay_tcp.specs.declared.idle.IdleLink.{IdleLink}
 use Rattle.relay_tcp.specs.declared.tcp_link.TcpLink.{TcpLink}
 use Rattle.relay_tcp.specs.TcpLink.{IsUnused, IsSameConnection}
-use Rattle.relay_tcp.specs.IdleLinks.{is_for, others_than, IsTaken}
+use Rattle.relay_tcp.specs.IdleLinks.{is_for, others_than, IsTaken, CountsUnasked}
 
 -- the links, where those to the peer from a place on are gone
 abbrev pub left_behind : Peer → List IdleLink → ℕ → List IdleLink
@@ -120,9 +120,31 @@ module _ (peer : Peer) (links now after : List IdleLink) (place : ℕ) (seen idl
       ∙ ap (λ (xs : List IdleLink). remove xs (place - 1)) before
       ∙ takes_out peer links (place - 1) idle (omega arith)
 
-  -- where the link is not idle, the search goes on
-  pub goes_on : after ≡ left_behind peer links (place - 1)
-  goes_on = stay ∙ drops peer links (place - 1) idle (omega arith) there found
+  -- one link less stays
+  one_less : length after + 1 ≡ length now
+  one_less =
+      ap (λ (xs : List IdleLink). length xs + 1) out
+      ∙ length-remove now (place - 1)
+      (let size : length now ≡ place + length (others_than peer (drop place links)) =
+      ap length stands
+      ∙ length-append (take place links) (others_than peer (drop place links))
+      ∙ ap (λ n. n + length (others_than peer (drop place links)))
+      (length-take-le place links within) in
+      omega (arith, size, some))
+
+  -- where the link is let go of, the search goes on, whether the link was counted or not
+  pub goes_on : (count before_it behind_it : ℕ) → CountsUnasked count links 0 before_it now
+      → before_it ≤ behind_it → behind_it ≤ before_it + 1
+      → (place - 1 ≤ length links) × (after ≡ left_behind peer links (place - 1))
+      × CountsUnasked count links 0 behind_it after
+  goes_on count before_it behind_it counts grew once = (
+    omega (arith, within),
+    stay ∙ drops peer links (place - 1) idle (omega arith) there found,
+    record {
+      grows = omega (arith, counts.grows, grew);
+      bounded = omega (arith, counts.bounded, once, one_less);
+    },
+  )
 
   -- where it is, it is taken
   pub taken : (link : TcpLink) → IsSameConnection idle.link link → idle.link.ended ≡ false

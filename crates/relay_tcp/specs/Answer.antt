@@ -1,5 +1,5 @@
 -- What a call of a socket means, by the answer that a link gives for it.
-use Rattle.std.specs.Prelude.{◌≡◌, ◌==◌, ◌<◌, ◌⊎◌, ℕ, Bool, true, false, not, Option, Some, None, Result, Ok, Err, zero, suc}
+use Rattle.std.specs.Prelude.{◌≡◌, ◌==◌, ◌<◌, ◌⊎◌, ℕ, Bool, true, false, not, cond, Option, Some, None, Result, Ok, Err, zero, suc}
 use Rattle.std.specs.declared.io.Error.{Error}
 use Rattle.std.specs.IoError.{error_kind}
 use Rattle.std.specs.declared.io.ErrorKind.{ErrorKind}
@@ -12,6 +12,8 @@ use Rattle.relay_links.specs.declared.link.Got.{Got}
 use Rattle.relay_links.specs.declared.link.Got.TheVariants as got
 use Rattle.relay_links.specs.declared.link.Put.{Put}
 use Rattle.relay_links.specs.declared.link.Put.TheVariants as put
+use Rattle.relay_tcp.specs.declared.answer.Sight.{Sight}
+use Rattle.relay_tcp.specs.declared.answer.Sight.TheVariants.{Idle, Unasked, Over}
 use Rattle.relay_tcp.specs.declared.answer.Trouble.{Trouble}
 use Rattle.relay_tcp.specs.declared.answer.Trouble.TheVariants.{Wait, TimedOut, Broken}
 
@@ -45,11 +47,12 @@ stays_ready (Ok zero) offered = true
 stays_ready (Ok (suc n)) offered = suc n == offered
 stays_ready (Err error) offered = not (would_block (error_kind error))
 
--- a look at what there is to read shows an open connection on which nothing came: it would have to
--- wait
-abbrev pub shows_idle : Result ℕ Error → Bool
-shows_idle (Ok n) = false
-shows_idle (Err error) = would_block (error_kind error)
+-- a look at what there is to read shows an open connection on which nothing came where it would
+-- have to wait, and bytes where there are such
+abbrev pub sight_of : Result ℕ Error → Sight
+sight_of (Ok zero) = Over
+sight_of (Ok (suc n)) = Unasked
+sight_of (Err error) = cond (would_block (error_kind error)) Idle Over
 
 -- the fault of a link, by its kind: another attempt may help where the connection was used before
 abbrev pub link_fault : FaultKind → Fault

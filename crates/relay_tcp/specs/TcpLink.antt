@@ -9,6 +9,7 @@ use Rattle.relay_links.specs.declared.link.Got.{Got}
 use Rattle.relay_links.specs.declared.link.Got.TheVariants as got
 use Rattle.relay_links.specs.declared.link.Put.{Put}
 use Rattle.relay_links.specs.declared.link.Put.TheVariants as put
+use Rattle.relay_links.specs.declared.link.UpKind.TheVariants as kind
 use Rattle.relay_links.specs.Count.{up}
 use Rattle.relay_links.specs.Link.{LinkState, LinkStart}
 use Rattle.relay_tcp.specs.declared.tcp_link.TcpLink.{TcpLink}
@@ -29,9 +30,10 @@ tcp_state link = record {
   silent_on_write = false;
 }
 
--- the link as it was made
+-- the link as it was made: it carries bytes
 abbrev pub tcp_start : TcpLink → LinkStart
 tcp_start link = record {
+  kind = kind.H1;
   items = None;
   given = 0;
   taken = 0;

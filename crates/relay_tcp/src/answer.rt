@@ -1,6 +1,6 @@
 //! What a call of a socket means: the answer of a link that follows from what the socket gave.
 ghost use Rattle.std.specs.Prelude.{◌≡◌};
-ghost use Rattle.relay_tcp.specs.Answer.{trouble_of, would_block, stays_ready, shows_idle, AnswersRead, AnswersWrite};
+ghost use Rattle.relay_tcp.specs.Answer.{trouble_of, would_block, stays_ready, sight_of, AnswersRead, AnswersWrite};
 
 use relay_links::{Got, Put};
 use relay_tasks::{Fault, FaultKind, RetryType};
@@ -76,14 +76,29 @@ pub(crate) fn stays_ready(moved: &io::Result<usize>, offered: usize) -> bool
     }
 }
 
-/// Whether a connection is open and nothing came on it, as far as a look at what there is to read
-/// shows. An end, bytes and a failure are met at once; else the look would have to wait.
-pub(crate) fn shows_idle(seen: &io::Result<usize>) -> bool
-    ensures { result ≡ shows_idle seen.now }
-{
-    match seen {
-        Ok(_) => false,
-        Err(error) => would_block(error.kind()),
+/// What a look at an idle connection shows.
+#[derive(Clone, Copy)]
+pub(crate) enum Sight {
+    /// It is open, and nothing came on it.
+    Idle,
+    /// Bytes came on it, which nobody had asked for.
+    Unasked,
+    /// It ended, or failed.
+    Over,
+}
+
+impl Sight {
+    /// By what a look at its first byte gave. An end, bytes and a failure are met at once; else the
+    /// look would have to wait.
+    pub(crate) fn of(seen: &io::Result<usize>) -> Sight
+        ensures { result ≡ sight_of seen.now }
+    {
+        match seen {
+            Ok(0) => Sight::Over,
+            Ok(_) => Sight::Unasked,
+            Err(error) if would_block(error.kind()) => Sight::Idle,
+            Err(_) => Sight::Over,
+        }
     }
 }
 

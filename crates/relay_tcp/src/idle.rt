@@ -1,7 +1,8 @@
 //! Links that came back and are kept, to be handed out again.
 ghost use Rattle.std.specs.Prelude.{◌≡◌, ◌≤◌, [], IfOk, vec_len, vec_capacity};
-ghost use Rattle.relay_tcp.specs.IdleLinks.{is_for, with_last, TakesLast};
+ghost use Rattle.relay_tcp.specs.IdleLinks.{is_for, with_last, TakesLast, CountsUnasked, taken_of};
 
+use crate::answer::Sight;
 use crate::tcp_link::TcpLink;
 use relay_tasks::Peer;
 use std::alloc::{AllocError, Global};
@@ -25,11 +26,13 @@ impl IdleLink {
     }
 }
 
-/// The links that are kept.
+/// The links that are kept, and how many others were let go of because bytes had come on them; the
+/// count stands still at its last value.
 #[derive(Drop)]
 pub(crate) struct IdleLinks {
     // The one that has been idle for longest comes first.
     links: Vec<IdleLink>,
+    unasked: u64,
     ghost few: { vec_len links ≤ 64 },
     ghost room: { 64 ≤ vec_capacity links },
 }
@@ -37,17 +40,27 @@ pub(crate) struct IdleLinks {
 impl IdleLinks {
     /// No link is kept yet; the room is taken.
     pub(crate) fn new(alloc: Global) -> Result<IdleLinks, AllocError>
-        ensures { IfOk result (λ idle. idle.links.items ≡ []) }
+        ensures empty { IfOk result (λ idle. idle.links.items ≡ []) }
+        ensures unasked { IfOk result (λ idle. idle.unasked ≡ 0) }
     {
         Ok(IdleLinks {
             links: Vec::with_capacity(alloc, MOST)?,
+            unasked: 0,
         })
+    }
+
+    /// How many links were let go of because bytes had come on them.
+    pub(crate) fn unasked(&self) -> u64
+        ensures { result ≡ self.now.unasked }
+    {
+        self.unasked
     }
 
     /// Keeps a link as the last one. It takes no memory.
     pub(crate) fn keep(&mut self, peer: Peer, link: TcpLink)
-        ensures { self.new.links.items
+        ensures kept { self.new.links.items
             ≡ with_last self.old.links.items (record { peer = peer; link = link }) }
+        ensures unasked { self.new.unasked ≡ self.old.unasked }
     {
         if self.links.len() >= MOST {
             let _ = self.links.remove(0);
@@ -59,17 +72,21 @@ impl IdleLinks {
     }
 
     /// The last link to that peer, of those that are open and on which nothing came. The links to
-    /// the peer behind it are closed.
+    /// the peer behind it are closed, and those of them that bytes came on are counted.
     pub(crate) fn take(&mut self, peer: &Peer) -> Option<TcpLink>
-        ensures { TakesLast peer.now self.old.links.items result self.new.links.items }
+        ensures last { TakesLast peer.now self.old.links.items result self.new.links.items }
+        ensures unasked { CountsUnasked self.old.unasked self.old.links.items (taken_of result)
+            self.new.unasked self.new.links.items }
     {
         let mut at = self.links.len();
         while at > 0 {
             at -= 1;
             if self.links[at].is_for(peer) {
                 let IdleLink { peer: _, link } = self.links.remove(at);
-                if link.is_idle() {
-                    return Some(link.again());
+                match link.look() {
+                    Sight::Idle => return Some(link.again()),
+                    Sight::Unasked => self.unasked = self.unasked.saturating_add(1),
+                    Sight::Over => {}
                 }
             }
         }

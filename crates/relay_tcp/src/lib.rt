@@ -12,6 +12,6 @@ mod tcp_link;
 mod tcp_poller;
 
 pub use readiness::{Origin, Readiness, Seat, watch};
-pub use tcp_connector::TcpConnector;
+pub use tcp_connector::{TcpConnector, TcpUpstream};
 pub use tcp_link::TcpLink;
 pub use tcp_poller::TcpPoller;

@@ -4,7 +4,7 @@ ghost use Rattle.std.specs.Borrow.{sem};
 ghost use Rattle.relay_links.specs.Link.{IsHandedOut, Reads, Writes};
 ghost use Rattle.relay_tcp.specs.TcpLink.{tcp_state, tcp_start, IsUnused, IsSameConnection, LendsStream, ReadsSocket, WritesSocket};
 
-use crate::answer::{read_answer, shows_idle, write_answer};
+use crate::answer::{Sight, read_answer, write_answer};
 use crate::readiness::{Seat, Side};
 use mio::net::TcpStream;
 use relay_links::{ByteLink, Got, Put};
@@ -61,16 +61,16 @@ impl TcpLink {
         }
     }
 
-    /// Whether the connection is open and nothing came on it that was not read, as far as the system
-    /// tells now. Its bytes stay, and so does what the seat knows.
-    pub(crate) fn is_idle(&self) -> bool
-        ensures was_open { result ≡ true → self.now.ended ≡ false }
-        ensures faultless { result ≡ true → self.now.faults ≡ 0 }
+    /// What the connection shows, as far as the system tells now: whether it is open, and whether
+    /// something came on it that was not read. Its bytes stay, and so does what the seat knows.
+    pub(crate) fn look(&self) -> Sight
+        ensures was_open { result ≡ Sight.Idle → self.now.ended ≡ false }
+        ensures faultless { result ≡ Sight.Idle → self.now.faults ≡ 0 }
     {
         if self.ended || self.faults > 0 {
-            return false;
+            return Sight::Over;
         }
-        shows_idle(&self.stream.peek(&mut [0]))
+        Sight::of(&self.stream.peek(&mut [0]))
     }
 
     /// A link over the same connection that has answered nothing, marked as reused.

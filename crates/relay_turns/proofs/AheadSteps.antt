@@ -113,6 +113,7 @@ left_wrote s p written before after ahead link start session left e to given sam
       began = l.began;
       stands = l.stands;
       why = on.again;
+      speaks = l.speaks;
       answers = ap (λ (h : HttpSession). h.writing.request) same ∙ l.answers;
       holds = subst (λ (tasks : List HttpTask). Holds left.writing tasks written) (sym on.same)
           (keeps (queued_in (order_of l.why)) l.holds);

@@ -13,7 +13,7 @@ use Rattle.relay_tasks.specs.declared.Fault.{Fault}
 use Rattle.relay_tasks.specs.declared.log.LogEntry.{LogEntry}
 use Rattle.relay_tasks.specs.declared.task.HttpTask.{HttpTask}
 use Rattle.relay_links.specs.Link.{LinkState, LinkStart, FailsWrite}
-use Rattle.relay_links.specs.declared.Returned.{Returned}
+use Rattle.relay_connector.specs.declared.Returned.{Returned}
 use Rattle.relay_links.specs.declared.link.Put.{Put}
 use Rattle.relay_links.specs.declared.link.Put.TheVariants as put
 use Rattle.relay_h1.specs.Verdict.{IsOpen}
@@ -185,6 +185,7 @@ failed_on s p written before after link start e failed to =
         began = failed.began;
         stands = failed.stands;
         why = on.again;
+        speaks = failed.speaks;
         over = over_on s before after failed.treated.e e to failed.over;
       };
       same = ap (λ (tasks : List HttpTask). answer_to failed.head (tasks ++ answered s)) on.same;
@@ -454,7 +455,7 @@ module _ {L : Type 0} (state : L → LinkState) (start_at : L → LinkStart) whe
       f.stands (order_of f.why) f.treated f.told
       (subst (λ (t : List ℕ). IsFrontOf p.written t) is front)
   owes_order s p w (r ∷ own) (Served e) text (Misses.ahead_of_it f is) front =
-      IsInOrder.is_unsent f.head r.keep f.raised e f.accepted f.refused f.treated f.told
+      IsInOrder.is_unsent f.head _ r.keep f.raised e f.accepted f.refused f.treated f.told
       (subst (λ (t : List ℕ). IsFrontOf p.written t) is front) f.unsent.sent
 
   -- the client's head is open no more

@@ -15,7 +15,7 @@ use Rattle.relay_tasks.specs.declared.Error.{Error}
 use Rattle.relay_tasks.specs.declared.log.LogEntry.{LogEntry}
 use Rattle.relay_links.specs.Link.{LinkState, LinkStart}
 use Rattle.relay_links.specs.Told.{Since}
-use Rattle.relay_links.specs.declared.Returned.{Returned}
+use Rattle.relay_connector.specs.declared.Returned.{Returned}
 use Rattle.relay_links.specs.declared.branch.Branch.{Branch}
 use Rattle.relay_links.specs.declared.branch.Branch.TheVariants as branch
 use Rattle.relay_tasks.specs.declared.error.Fail.{Fail as Why}
@@ -644,7 +644,8 @@ module _ {L C : Type 0} (state : L → LinkState) (start_at : L → LinkStart) w
           → TurnedCounts state start_at (0 + tasks) (1 + ends) (opened_to s log') client' left []
           settled
       relay_finished is settled leaves =
-          over_by (goes_by step.Finished is) settled (leaves (turned t.attempt t.exchange t.context) t.stands)
+          over_by (goes_by step.Finished is) settled
+          (leaves (turned t.attempt t.exchange t.context) t.stands)
 
       -- one that failed it
       pub relay_failed : (why : Why) → did.step ≡ step.Failed why → (settled : Phase L C)

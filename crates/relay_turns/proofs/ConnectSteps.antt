@@ -12,7 +12,8 @@ use Rattle.relay_tasks.specs.declared.hook.Hook.TheVariants as hook
 use Rattle.relay_tasks.specs.declared.log.Item.TheVariants as item
 use Rattle.relay_tasks.specs.declared.log.LogEntry.{LogEntry}
 use Rattle.relay_tasks.specs.Head.{RequestHead}
-use Rattle.relay_links.specs.Connector.{IsConnectFault}
+use Rattle.relay_connector.specs.Connector.{IsConnectFault}
+use Rattle.relay_connector.specs.Upstream.{SpeaksBytes}
 use Rattle.relay_links.specs.Count.{last_count, Rose}
 use Rattle.relay_links.specs.Link.{LinkState, LinkStart}
 use Rattle.relay_core.specs.Past.{Origin}
@@ -89,10 +90,11 @@ relaying_stands state start_at o p client ahead log x at_sent under =
 pub part_relayed : (s : Start) (p : Passed) (head sent : RequestHead) (reused : Bool)
     (link : LinkState) (start : LinkStart) (refused : Option Error) (f : Filtering)
     (began : List LogEntry) → IsRelayable head → Sends s.called head sent
-    → start.reused ≡ reused → StandsIn s.called began f.calls
+    → SpeaksBytes start → start.reused ≡ reused → StandsIn s.called began f.calls
     → exchange.IsInOrderWith refused f (origin_at s head sent reused began) p link.ended
     → IsPartRelayed s p link start
-part_relayed s p head sent reused link start refused f began relayable sends same stands order =
+part_relayed s p head sent reused link start refused f began relayable sends speaks same stands
+    order =
     record {
       head = head;
       sent = sent;
@@ -104,6 +106,7 @@ part_relayed s p head sent reused link start refused f began relayable sends sam
       refused = refused;
       order = subst (λ (r : Bool). exchange.IsInOrderWith refused f (origin_at s head sent r began)
           p link.ended) (sym same) order;
+      speaks = speaks;
     }
 
 module _ {L C : Type 0} (state : L → LinkState) (start_at : L → LinkStart) where

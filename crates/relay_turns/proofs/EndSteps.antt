@@ -13,9 +13,9 @@ use Rattle.std.proofs.Common.{◌≡◌, ◌≢◌, ℕ, ◌+◌, ◌⊎◌, Boo
 use Rattle.std.specs.Prelude.{◌&&◌, IsSome, IsTrue, if◌then◌else◌}
 use Rattle.std.specs.List.{list_any}
 use Rattle.std.proofs.lemmas.List.Folds.{list_any-append}
-use Rattle.relay_links.specs.Connector.{Offer}
+use Rattle.relay_connector.specs.Connector.{Offer}
 use Rattle.relay_links.specs.Link.{LinkState, LinkStart}
-use Rattle.relay_links.specs.declared.Returned.{Returned}
+use Rattle.relay_connector.specs.declared.Returned.{Returned}
 use Rattle.relay_links.proofs.GainsLemmas.{Gains-nothing}
 use Rattle.relay_tasks.specs.Hooks.{same_hook}
 use Rattle.relay_tasks.specs.declared.Error.{Error}
@@ -230,7 +230,7 @@ module _ (s : Start) (log closed : List LogEntry) where
       IsInOrder.is_exchange why f began head out reused ends relayable sends stands order
   order_on p (IsInOrder.is_unlinked head e has refused answers front sent) =
       absurd (unanswered e answers)
-  order_on p (IsInOrder.is_unsent head keep raised e has refuses treated answers front sent) =
+  order_on p (IsInOrder.is_unsent head start keep raised e has refuses treated answers front sent) =
       absurd (unanswered e answers)
   order_on p
       (IsInOrder.is_failure why f began head out reused ends before raised e relayable sends stands

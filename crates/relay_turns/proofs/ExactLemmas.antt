@@ -6,7 +6,7 @@ use Rattle.relay_tasks.specs.Head.{RequestHead}
 use Rattle.relay_tasks.specs.declared.Error.{Error}
 use Rattle.relay_links.specs.Count.{Rose}
 use Rattle.relay_links.specs.Link.{LinkState, LinkStart}
-use Rattle.relay_links.specs.declared.Returned.{Returned}
+use Rattle.relay_connector.specs.declared.Returned.{Returned}
 use Rattle.relay_tasks.specs.declared.Context.{Context}
 use Rattle.relay_authority.specs.Entry.{Entered}
 use Rattle.relay_authority.proofs.OneAnswer.{Entered-unique}
@@ -518,7 +518,7 @@ valid_began s p w head sent reused began link start valid = record {
 whole_linked : (s : Start) (p : Passed) (w : World) (link : LinkState) (start : LinkStart)
     (keep : Bool) (told : Option Error) (outcome : Outcome)
     → EndsLinked s p w link start keep told outcome → (head : RequestHead) → LeaveAll s.called
-    → ((keep : Bool) (e : Error) → ¬ (RefusesToSend s.called head keep e))
+    → ((keep : Bool) (e : Error) → ¬ (RefusesToSend s.called start head keep e))
     → ((sent : RequestHead) → Sends s.called head sent → Agrees head sent)
     → AsksFor (origin_of s head head false) p w.client
     → ((sent : RequestHead) → Sends s.called head sent → AnswersWith sent.method false p link)
@@ -553,7 +553,8 @@ whole_linked s p w link start keep told (Served (Some e) reuse) (inl ends) head 
 whole_linked s p w link start keep told (Served (Some e) reuse) (inr ends) head left goes agree asks
     answers client faults =
     let r = ends.refused in
-    absurd (goes keep r.raised (subst (λ (h : RequestHead). RefusesToSend s.called h keep r.raised)
+    absurd (goes keep r.raised
+    (subst (λ (h : RequestHead). RefusesToSend s.called start h keep r.raised)
     (asks_head (origin_of s head head false) p w.client r.head r.accepted.framing r.accepted.len
     asks
     r.accepted.has) r.refused))
@@ -615,7 +616,7 @@ module _ {L : Type 0} (state : L → LinkState) (start_at : L → LinkStart) whe
             (sym (same_one one)) (unfit sent sends));
         whole = λ head relayable lets left goes agree asks answers faultless.
             whole_linked s p w (state r.link) (start_at r.link) r.keep told outcome ends head left
-            goes agree asks
+            (λ keep e. goes r keep e refl) agree asks
             (λ sent sends. answers r sent refl sends) faultless.client (faultless.link r refl);
       }
 

@@ -224,6 +224,7 @@ leaves_part s p client ahead link start session e l =
       stands = l.stands;
       refused = refused_of l.why;
       order = at_written _ l.f o p l.before link.ended (order_of l.why) front;
+      speaks = l.speaks;
     }
 
 -- what passed in an attempt that failed is that, or nothing did
@@ -374,6 +375,7 @@ session_on s these those e more is p client ahead link start session left raised
       began = l.began;
       stands = stands_more these those e l.began l.f.calls more is l.stands;
       why = l.why;
+      speaks = l.speaks;
       answers = ap (λ (w : Writing). w.request) same ∙ l.answers;
       holds = subst (λ (w : Writing). Holds w (queued_in (order_of l.why)) p.written) (sym same)
           l.holds;
@@ -512,6 +514,7 @@ closed_session s log closed p client ahead link start session raised l = record 
   began = l.began;
   stands = l.stands;
   why = l.why;
+  speaks = l.speaks;
   answers = l.answers;
   holds = l.holds;
   broken = λ fault is.
@@ -565,6 +568,7 @@ module _ {L C : Type 0} (state : L → LinkState) (start_at : L → LinkStart) (
             began = l.began;
             stands = l.stands;
             why = l.why;
+            speaks = l.speaks;
             over = over_as (closed_to s log closed) w.client raised treated log session.value v
                 l.broken (rw l.is_left refl) (length (tries_in lease)) made stops;
           }) refl kept;
@@ -773,7 +777,7 @@ module _ {L C M K : Type 0} (state : L → LinkState) (start_at : L → LinkStar
         (queued_in (order_of l.why)) p.written l.answers l.holds
         (unqueued_parts session.value.writing (as_begun_parts session.value begun).1) in
         FailsAgain.in_exchange l.head l.sent raised l.relayable l.sends is_treated l.before l.f
-        l.began l.stands l.why given.at given.text kept
+        l.began l.stands l.why given.at given.text l.speaks kept
     fails_again (IsBroken.ahead_of_it l) =
         FailsAgain.ahead_of_it l.connecting.head raised l.connecting.accepted l.why is_treated
         (subst (λ (b : Bool). IsHandedOut (state link) (start_at link) b) (sym l.fresh.marked)

@@ -35,7 +35,7 @@ use Rattle.relay_authority.specs.Entry.{Entered}
 use Rattle.relay_request.specs.Relayable.{IsConnect, NamesUpgrade}
 use Rattle.relay_request.specs.Passed.{World, Start, start_of, origin_of, nothing, asked, TellsClient, IsUnsent}
 use Rattle.relay_request.specs.Endings.{IsInOrder, IsLeftAlone, IsTurnedDown, EndsUnlinked, AttemptsUnlinked, MadeNone, ended_outcome, left_early}
-use Rattle.relay_request.specs.Ahead.{unrelayed}
+use Rattle.relay_request.specs.Sent.{unrelayed}
 use Rattle.relay_request.specs.Tries.{fault_error}
 use Rattle.relay_request.specs.Phases.{RunSoFar}
 use Rattle.relay_request.specs.Turn.{Advances}

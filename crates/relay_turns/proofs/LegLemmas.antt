@@ -18,9 +18,9 @@ use Rattle.relay_tasks.specs.declared.Fault.{Fault}
 use Rattle.relay_tasks.specs.declared.Peer.{Peer}
 use Rattle.relay_tasks.specs.declared.hook.Hook.TheVariants as hook
 use Rattle.relay_tasks.specs.declared.log.LogEntry.{LogEntry}
-use Rattle.relay_links.specs.Connector.{Offer}
+use Rattle.relay_connector.specs.Connector.{GetResult}
 use Rattle.relay_links.specs.Link.{LinkState, LinkStart}
-use Rattle.relay_links.specs.declared.Returned.{Returned}
+use Rattle.relay_connector.specs.declared.Returned.{Returned}
 use Rattle.relay_links.proofs.SinceLemmas.{Since-start}
 use Rattle.relay_peer.proofs.FrontLemmas.{front_then}
 use Rattle.relay_peer.specs.Body.{IsFrontOf}
@@ -163,7 +163,7 @@ pub taken_more : {L : Type 0} (start_at : L → LinkStart) (legs : List (Leg L))
     → taken_by start_at (legs ++ leg ∷ []) ≡ taken_by start_at legs ++ taken_in start_at leg
 taken_more start_at [] leg = append-nil (taken_in start_at leg)
 taken_more start_at (first ∷ legs) leg =
-    ap (λ (os : List Offer). taken_in start_at first ++ os) (taken_more start_at legs leg)
+    ap (λ (os : List GetResult). taken_in start_at first ++ os) (taken_more start_at legs leg)
     ∙ sym (append_assoc (taken_in start_at first) (taken_by start_at legs) (taken_in start_at leg))
 
 -- the links that they handed back, and that of one more

@@ -3,6 +3,7 @@
 --
 --   linked_on, prepared_on     a hook was called, and the request stands as it stood
 --   told_badly                 the application failed as it was told of the link
+--   told_unspoken              it let be a link over which nothing is relayed
 --   sends_by, refuses_by       what became of the head
 --   link_lost .. ahead_broken  an attempt that ends ahead of its exchange
 --   begins_by .. lost_first    what begins an exchange: the filters of requests, or none
@@ -15,6 +16,7 @@ use Rattle.std.proofs.lemmas.List.Elements.{All-nil}
 use Rattle.std.specs.Global.{Box}
 use Rattle.std.specs.Prelude.{◌⊎◌, All, is_some, IsSome, IsTrue, Result, Ok, Err}
 use Rattle.relay_tasks.specs.declared.error.Error.{Error}
+use Rattle.relay_tasks.specs.declared.ErrorSource.TheVariants.{Upstream}
 use Rattle.relay_tasks.specs.declared.error.Fail.{Fail}
 use Rattle.relay_tasks.specs.declared.error.Fail.TheVariants as fail
 use Rattle.relay_tasks.specs.declared.Peer.{Peer}
@@ -23,6 +25,7 @@ use Rattle.relay_tasks.specs.declared.hook.Hook.TheVariants as hook
 use Rattle.relay_tasks.specs.declared.log.LogEntry.{LogEntry}
 use Rattle.relay_tasks.specs.Hooks.{same_hook}
 use Rattle.relay_tasks.specs.Head.{RequestHead}
+use Rattle.relay_connector.specs.Upstream.{SpeaksBytes}
 use Rattle.relay_links.specs.Link.{LinkState, LinkStart, IsHandedOut}
 use Rattle.relay_links.specs.Told.{Since}
 use Rattle.relay_links.proofs.SinceLemmas.{Since-start}
@@ -70,11 +73,11 @@ use Rattle.relay_hooked.proofs.StationLemmas.{from_piece, piece_fails, piece_sta
 use Rattle.relay_request.specs.Calls.{BeginsCalls, BegunBy, CountsCalls, GoesOn, GrowsCalls, IsBreaking, IsLogged, IsOpening, IsSendingCalls, IsUnended, TellsPeer, UnbegunBy, allowed_by, is_before, log_of, seen_with, station_at, treated_at}
 use Rattle.relay_request.specs.Named.{IsNamed}
 use Rattle.relay_request.specs.Preparing.{FiltersReady, MakesHead, Prepares, Settles, Unprepared}
-use Rattle.relay_request.specs.Sent.{FailsAt, Filters, Sends, ends_at, RefusesToSend, SettlesFramed, asked_in, client_in, client_of}
+use Rattle.relay_request.specs.Sent.{FailsAt, Filters, Sends, ends_at, RefusesToSend, SettlesFramed, asked_in, client_in, client_of, unrelayed}
 use Rattle.relay_request.specs.Endings.{IsInOrder}
 use Rattle.relay_request.specs.Tries.{AreTries, tries_in}
 use Rattle.relay_request.specs.Passed.{asked, World, Start, HasFiltered, begins_end, opened_to, origin_at, origin_of, TellsClient, IsUnsent, IsUntouched}
-use Rattle.relay_request.specs.Phases.{IsBroken, IsConnecting, IsLeased, IsRelaying, LeavesAhead, PhaseHolds, RunSoFar}
+use Rattle.relay_request.specs.Phases.{IsBroken, IsConnecting, IsLeased, IsRelaying, LeavesAhead, RunSoFar}
 use Rattle.relay_request.specs.Turn.{Advances}
 use Rattle.relay_request.specs.declared.calls.At.{At}
 use Rattle.relay_request.specs.declared.calls.At.TheVariants as at
@@ -217,22 +220,23 @@ module _ {M K X : Type 0} (allows : Standing → LogEntry → Type 0) (c d : Cal
     }
 
     -- why it is not, and how the request stands then
-    pub record Refuses (e : Error) : Type 0 where
+    pub record Refuses (start : LinkStart) (e : Error) : Type 0 where
       pub on : IsConnecting (opened_to s (log_of d)) p w left tries
       pub same_peers : TellsSame (log_of c) (log_of d)
-      pub why : RefusesToSend (log_of d) on.head true e
+      pub why : RefusesToSend (log_of d) start on.head true e
 
-    pub refuses_as : (e : Error) → Unprepared allows c client mark d left behind e → Refuses e
-    refuses_as e (Unprepared.unready same stays still readies) =
+    pub refuses_as : (start : LinkStart) → SpeaksBytes start → (e : Error)
+        → Unprepared allows c client mark d left behind e → Refuses start e
+    refuses_as start speaks e (Unprepared.unready same stays still readies) =
         absurd (never_unready (head_behind k.head (log_of c)) e
         (readies (head_behind k.head (log_of c)) k.is_left))
-    refuses_as e (Unprepared.unfiltered ready call) =
+    refuses_as start speaks e (Unprepared.unfiltered ready call) =
         record {
           on = stays_on hook.UpstreamRequestFilter station.linked station.broken refl
               call.call.turn;
           same_peers = peers_stay allows c d client left mark behind hook.UpstreamRequestFilter
               station.linked station.broken refl refl call.call.turn;
-          why = RefusesToSend.unfiltered (record {
+          why = RefusesToSend.unfiltered speaks (record {
             before = log_of c;
             last = call.call.turn.e;
             after = [];
@@ -242,12 +246,12 @@ module _ {M K X : Type 0} (allows : Standing → LogEntry → Type 0) (c d : Cal
             error = call.call.error;
           }) refl;
         }
-    refuses_as e (Unprepared.unsettled filtered f settles) =
+    refuses_as start speaks e (Unprepared.unsettled filtered f settles) =
         record {
           on = stays_on hook.UpstreamRequestFilter station.linked station.sent refl f.call.turn;
           same_peers = peers_stay allows c d client left mark behind hook.UpstreamRequestFilter
               station.linked station.sent refl refl f.call.turn;
-          why = RefusesToSend.unsettled filtered (filters_by filtered f)
+          why = RefusesToSend.unsettled speaks filtered (filters_by filtered f)
               (settled_by filtered (Err e) f settles) refl;
         }
 
@@ -261,37 +265,38 @@ came_alone p none unsent = grind (arith, none, unsent.got, unsent.sent)
 -- ---- an attempt that ends ahead of its exchange
 
 module _ {L C : Type 0} (state : L → LinkState) (start_at : L → LinkStart) where
-  -- the link is to go back, not kept, where memory was wanted
+  -- a link that was leased is to go back, not kept, where memory was wanted
+  lease_lost : (s : Start) (p : Passed) (w : World) (link : L) (lease : Lease) → TellsClient s p w
+      → IsUntouched s p w → IsLeased s p (state link) (start_at link) lease → p.written ≡ []
+      → IsUnsent p
+      → Advances {C = C} state start_at s w (Close link lease false outcome.OutOfMemory)
+  lease_lost s p w link lease tells untouched leased none unsent = record {
+    passed = p;
+    run = record {
+      tells = tells;
+      order = IsInOrder.is_nothing none unsent.sent;
+      untouched = untouched;
+      going = no_limit;
+      calm = tt;
+      holds = (
+        leased,
+        (inr (none, record { got = unsent.got; sent = unsent.sent }), refl),
+      );
+    };
+  }
+
+  -- so it is of an attempt that was to send its head
   pub link_lost : (these those : List LogEntry) (s : Start) (p : Passed) (w : World) (context : C)
       (session : Box HttpSession) (link : L) (lease : Lease) → TellsSame these those
       → RunSoFar {C = C} state start_at (opened_to s these) p w []
       (Prepare context session link lease)
       → Advances {C = C} state start_at (opened_to s those) w
       (Close link lease false outcome.OutOfMemory)
-  link_lost these those s p w context session link lease same run = record {
-    passed = p;
-    run = record {
-      tells = called_tells s these those p w run.tells;
-      order = IsInOrder.is_nothing run.holds.1.connecting.written
-          run.holds.1.connecting.unsent.sent;
-      untouched = run.untouched;
-      going = no_limit;
-      calm = tt;
-      holds = (
-        leased_on s these those p (state link) (start_at link) lease same run.holds.0,
-        (
-          inr (
-            run.holds.1.connecting.written,
-            record {
-              got = run.holds.1.connecting.unsent.got;
-              sent = run.holds.1.connecting.unsent.sent;
-            },
-          ),
-          refl,
-        ),
-      );
-    };
-  }
+  link_lost these those s p w context session link lease same run =
+      lease_lost (opened_to s those) p w link lease (called_tells s these those p w run.tells)
+      run.untouched
+      (leased_on s these those p (state link) (start_at link) lease same run.holds.0)
+      run.holds.1.connecting.written run.holds.1.connecting.unsent
 
   -- a hook was called, and the request stands as it stood, its link given
   abbrev pub prepared_on : (these those : List LogEntry) (s : Start) (p : Passed) (w : World)
@@ -310,17 +315,17 @@ module _ {L C : Type 0} (state : L → LinkState) (start_at : L → LinkStart) w
     calm = run.calm;
     holds = (
       leased_on s these those p (state link) (start_at link) lease same run.holds.0,
-      record { connecting = k; fresh = run.holds.1.fresh },
+      record { connecting = k; fresh = run.holds.1.fresh; speaks = run.holds.1.speaks },
     );
   }
 
-  -- a link was given that nobody asked yet
+  -- a link was given that nobody asked yet, and that carries bytes
   abbrev pub linked : (s : Start) (p : Passed) (w : World) (context : C) (session : Box HttpSession)
       (link : L) (lease : Lease) → IsHandedOut (state link) (start_at link) lease.reused
-      → IsNamed s.called lease.peer → lease.recorded ≡ lease.peer
+      → SpeaksBytes (start_at link) → IsNamed s.called lease.peer → lease.recorded ≡ lease.peer
       → RunSoFar {C = C} state start_at s p w [] (Connect context session (tries_in lease))
       → RunSoFar {C = C} state start_at s p w [] (Prepare context session link lease)
-  linked s p w context session link lease handed named same run = record {
+  linked s p w context session link lease handed speaks named same run = record {
     tells = run.tells;
     order = run.order;
     untouched = run.untouched;
@@ -329,7 +334,7 @@ module _ {L C : Type 0} (state : L → LinkState) (start_at : L → LinkStart) w
     holds = (
       leased_anew s p (state link) (start_at link) lease run.holds.unsent run.holds.are_tries handed
           named (named ∙ ap (λ (x : Peer). Some x) (sym same)),
-      record { connecting = run.holds; fresh = handed },
+      record { connecting = run.holds; fresh = handed; speaks = speaks },
     );
   }
 
@@ -368,22 +373,34 @@ module _ {L C M K : Type 0} (state : L → LinkState) (start_at : L → LinkStar
     (run : RunSoFar {C = C} state start_at (opened_to s (log_of c)) p w []
     (Connect context session (tries_in lease)))
   where
-    -- the link is held
-    abbrev pub holds_link : RunSoFar {C = C} state start_at (opened_to s (log_of c)) p w []
+    -- the peer that was named is the one of the lease
+    named_peer : IsNamed (log_of c) lease.peer
+    named_peer =
+        subst (λ (a : At K C). TellsPeer a (log_of c) (request_head (seen_with c session.value)))
+        was tells
+
+    -- the link is leased
+    link_leased : IsLeased (opened_to s (log_of c)) p (state link) (start_at link) lease
+    link_leased = leased_anew (opened_to s (log_of c)) p (state link) (start_at link) lease
+        run.holds.unsent run.holds.are_tries handed named_peer
+        (named_peer ∙ ap (λ (x : Peer). Some x) (sym same))
+
+    -- and held, where it carries bytes
+    holds_link : SpeaksBytes (start_at link)
+        → RunSoFar {C = C} state start_at (opened_to s (log_of c)) p w []
         (Prepare context session link lease)
-    holds_link = linked state start_at (opened_to s (log_of c)) p w context session link lease
-        handed
-        (subst (λ (a : At K C). TellsPeer a (log_of c) (request_head (seen_with c session.value)))
-        was
-        tells) same run
+    holds_link speaks = linked state start_at (opened_to s (log_of c)) p w context session link
+        lease handed speaks named_peer same run
 
     -- memory was wanted
     pub told_lost : (d : Calls M K C) → log_of d ≡ log_of c
         → Advances {C = C} state start_at (opened_to s (log_of d)) w
         (Close link lease false outcome.OutOfMemory)
     told_lost d log =
-        link_lost state start_at (log_of c) (log_of d) s p w context session link lease
-        (tells_still (log_of c) (log_of d) log) holds_link
+        lease_lost state start_at (opened_to s (log_of d)) p w link lease
+        (called_tells s (log_of c) (log_of d) p w run.tells) run.untouched
+        (leased_on s (log_of c) (log_of d) p (state link) (start_at link) lease
+        (tells_still (log_of c) (log_of d) log) link_leased) run.holds.written run.holds.unsent
 
 module _ {L C M K : Type 0} (state : L → LinkState) (start_at : L → LinkStart)
     (allows : Standing → LogEntry → Type 0) (c d : Calls M K C) (mark behind : ℕ) (s : Start)
@@ -394,19 +411,19 @@ module _ {L C M K : Type 0} (state : L → LinkState) (start_at : L → LinkStar
     (run : RunSoFar {C = C} state start_at (opened_to s (log_of c)) p w []
     (Connect context session (tries_in lease)))
   where
-    -- the link is held
-    held_link : RunSoFar {C = C} state start_at (opened_to s (log_of c)) p w []
-        (Prepare context session link lease)
-    held_link = holds_link state start_at c s p w context session link lease handed was same tells
-        run
+    -- the link is leased
+    leased_link : IsLeased (opened_to s (log_of c)) p (state link) (start_at link) lease
+    leased_link = link_leased state start_at c s p w context session link lease handed was same
+        tells run
 
-    -- the head comes next
-    pub told_well : (context' : C) (session' : Box HttpSession) → session'.value ≡ left
+    -- the head comes next, over a link that carries bytes
+    pub told_well : SpeaksBytes (start_at link) → (context' : C) (session' : Box HttpSession)
+        → session'.value ≡ left
         → Turns allows hook.ConnectedToUpstream station.named station.linked QueuesNothing
         (seen_with c session.value) mark (seen_with d left) behind
         → Advances {C = C} state start_at (opened_to s (log_of d)) w
         (Prepare context' session' link lease)
-    told_well context' session' is turn = record {
+    told_well speaks context' session' is turn = record {
       passed = p;
       run = prepared_on state start_at (log_of c) (log_of d) s p w context context' session session'
           link lease
@@ -415,7 +432,25 @@ module _ {L C M K : Type 0} (state : L → LinkState) (start_at : L → LinkStar
           (subst (λ (h : HttpSession). IsConnecting (opened_to s (log_of d)) p w h (tries_in lease))
           (sym is)
           (stays_on allows c d session.value left mark behind s p w (tries_in lease)
-          run.holds hook.ConnectedToUpstream station.named station.linked refl turn)) held_link;
+          run.holds hook.ConnectedToUpstream station.named station.linked refl turn))
+          (holds_link state start_at c s p w context session link lease handed was same tells run
+          speaks);
+    }
+
+    -- the attempt fails behind that call, whichever way it came out, for a reason ahead of its head
+    told_ahead : (to : Station) (e : Error)
+        → (turn : Turns allows hook.ConnectedToUpstream station.named to QueuesNothing
+        (seen_with c session.value) mark (seen_with d left) behind)
+        → RefusesToSend (log_of d) (start_at link) run.holds.head false e
+        → LeavesAhead (opened_to s (log_of d)) p w (state link) (start_at link) left lease false e
+    told_ahead to e turn why = record {
+      connecting = stays_on allows c d session.value left mark behind s p w
+          (tries_in lease) run.holds hook.ConnectedToUpstream station.named to refl turn;
+      leased = leased_on s (log_of c) (log_of d) p (state link) (start_at link) lease
+          (peers_stay allows c d session.value left mark behind hook.ConnectedToUpstream
+          station.named to refl refl turn) leased_link;
+      fresh = handed;
+      why = why;
     }
 
     -- it failed
@@ -425,28 +460,27 @@ module _ {L C M K : Type 0} (state : L → LinkState) (start_at : L → LinkStar
         → turn.e.error ≡ Some e
         → LeavesAhead (opened_to s (log_of d)) p w (state link) (start_at link) left lease
         false e
-    told_badly e turn fails = record {
-      connecting = stays_on allows c d session.value left mark behind s p w
-          (tries_in lease) run.holds hook.ConnectedToUpstream station.named station.broken refl
-          turn;
-      leased = leased_on s (log_of c) (log_of d) p (state link) (start_at link) lease
-          (peers_stay allows c d session.value left mark behind hook.ConnectedToUpstream
-          station.named station.broken refl refl turn) holds.0;
-      fresh = handed;
-      why = RefusesToSend.untold (record {
-        before = log_of c;
-        last = turn.e;
-        after = [];
-        treats = refl;
-        called_are = turn.calls.log;
-        is_of_it = turn.hook;
-        error = fails;
-      }) refl;
-    }
-      where
-        holds : PhaseHolds {C = C} state start_at (opened_to s (log_of c)) p w []
-            (Prepare context session link lease)
-        holds = held_link.holds
+    told_badly e turn fails =
+        told_ahead station.broken e turn
+        (RefusesToSend.untold (record {
+          before = log_of c;
+          last = turn.e;
+          after = [];
+          treats = refl;
+          called_are = turn.calls.log;
+          is_of_it = turn.hook;
+          error = fails;
+        }) refl)
+
+    -- it let the link be, which carries messages, over which nothing is relayed
+    pub told_unspoken : ¬ (SpeaksBytes (start_at link))
+        → Turns allows hook.ConnectedToUpstream station.named station.linked QueuesNothing
+        (seen_with c session.value) mark (seen_with d left) behind
+        → LeavesAhead (opened_to s (log_of d)) p w (state link) (start_at link) left lease false
+        (unrelayed Upstream)
+    told_unspoken silent turn =
+        told_ahead station.linked (unrelayed Upstream) turn
+        (RefusesToSend.unspoken silent refl refl)
 
 -- ---- the head is made
 
@@ -494,7 +528,7 @@ module _ {L C M K : Type 0} (state : L → LinkState) (start_at : L → LinkStar
         true e
     filtered_badly e refused =
         let r = refuses_as allows c d session.value left mark behind s p w
-        (tries_in lease) run.holds.1.connecting e refused in
+        (tries_in lease) run.holds.1.connecting (start_at link) run.holds.1.speaks e refused in
         record {
           connecting = r.on;
           leased = leased_on s (log_of c) (log_of d) p (state link) (start_at link) lease
@@ -606,6 +640,15 @@ module _ {C M K : Type 0} (allows : Standing → LogEntry → Type 0) (mark_of :
     told_breaks peer error was stays turn =
         breaks_at station.named (ap (λ (a : At K C). station_at a) was) hook.ConnectedToUpstream
         station.broken error (ap (λ (a : At K C). treated_at a) (stays ∙ was)) refl refl turn
+
+    -- it let be a link that carries messages, over which nothing is relayed
+    pub unspoken_breaks : (peer : Peer) (error : Error) → c.at ≡ at.Named peer → d.at ≡ at.Linked
+        → Turns allows hook.ConnectedToUpstream station.named station.linked QueuesNothing
+        (seen_with c client) (mark_of context) (seen_with d left) (mark_of context')
+        → IsBreaking allows mark_of d context' left error
+    unspoken_breaks peer error was is turn =
+        breaks_at station.named (ap (λ (a : At K C). station_at a) was) hook.ConnectedToUpstream
+        station.linked error (ap (λ (a : At K C). treated_at a) is) refl refl turn
 
     -- the filter was called
     pub filtered_logged : c.at ≡ at.Linked → (filtered : RequestHead)
@@ -1078,7 +1121,7 @@ module _ {L C : Type 0} (state : L → LinkState) (start_at : L → LinkStart)
     pub begun : (given : RequestHead) (a : Attempt L C)
         → (run : RunSoFar {C = C} state start_at (opened_to s log) p w []
         (Prepare context session link a.lease))
-        → Sends log run.holds.1.connecting.head given → HasFiltered log
+        → link_of a.exchange ≡ link → Sends log run.holds.1.connecting.head given → HasFiltered log
         → (allows : Standing → LogEntry → Type 0) (old new : Seen) (mark behind : ℕ)
         → Walk allows (standing None false (moment (seen_by old session.value) mark)) es
         (standing None false (moment (seen_by new a.exchange.down.inner.session) behind))
@@ -1091,7 +1134,7 @@ module _ {L C : Type 0} (state : L → LinkState) (start_at : L → LinkStart)
         (record { came = came; written = []; got = []; sent = [] }) w.client w.ahead log'
         a.exchange)
         → IsRelaying state start_at (opened_to s log') p w a
-    begun given a run sends at_sent allows old new mark behind walk same first begins =
+    begun given a run over sends at_sent allows old new mark behind walk same first begins =
         record {
           leased = leased_under_way state start_at (opened_to s log') origin p w.client w.ahead log'
               a.exchange a.lease refl
@@ -1102,6 +1145,7 @@ module _ {L C : Type 0} (state : L → LinkState) (start_at : L → LinkStart)
           sent = given;
           relayable = k.accepted.relayable;
           sends = sends_past log es log' more plain sends;
+          speaks = subst (λ (l : L). SpeaksBytes (start_at l)) (sym over) run.holds.1.speaks;
           began = log;
           at_sent = at_sent;
           under_way = under;
@@ -1193,7 +1237,7 @@ module _ {L C M K : Type 0} (state : L → LinkState) (start_at : L → LinkStar
           leased = leased_on s (log_of c) (log_of d) p (state link) (start_at link) lease
               (tells_past (log_of c) walks.es (log_of d) walks.log walks.plain) run.holds.0;
           fresh = run.holds.1.fresh;
-          why = RefusesToSend.unpassed fails refl;
+          why = RefusesToSend.unpassed run.holds.1.speaks fails refl;
         })
 
 module _ {L C : Type 0} (state : L → LinkState) (start_at : L → LinkStart) where
@@ -1235,7 +1279,7 @@ module _ {L C : Type 0} (state : L → LinkState) (start_at : L → LinkStart) w
         relaying.leased,
         (
           inl (part_relayed s p relaying.head relaying.sent a.lease.reused _ _ None _ relaying.began
-              relaying.relayable relaying.sends relaying.leased.reused
+              relaying.relayable relaying.sends relaying.speaks relaying.leased.reused
               (relaying_stands state start_at _ p w.client w.ahead s.called a.exchange
               relaying.at_sent relaying.under_way) relaying.under_way.order),
           refl,
@@ -1289,7 +1333,7 @@ module _ {L C M K : Type 0} (state : L → LinkState) (start_at : L → LinkStar
         pub begun_relays : (s : Start) (p : Passed) (w : World) (link : L) (given : RequestHead)
             → (run : RunSoFar {C = C} state start_at (opened_to s (log_of c)) p w []
             (Prepare context session link a.lease))
-            → Sends (log_of c) run.holds.1.connecting.head given
+            → link_of a.exchange ≡ link → Sends (log_of c) run.holds.1.connecting.head given
             → HasFiltered (log_of c) → SameButHead session.value a.exchange.down.inner.session
             → a.exchange.down.at_first ≡ false
             → ((o : Origin) (came : List ℕ) (reused : Bool) → given ≡ o.sent → o.asked ≡ false
@@ -1299,9 +1343,9 @@ module _ {L C M K : Type 0} (state : L → LinkState) (start_at : L → LinkStar
             (record { came = came; written = []; got = []; sent = [] }) w.client w.ahead (log_of d)
             a.exchange)
             → IsRelaying state start_at (opened_to s (log_of d)) p w a
-        begun_relays s p w link given run sends at_sent same first begins =
+        begun_relays s p w link given run over sends at_sent same first begins =
             begun state start_at (log_of c) (log_of d) leads.walks.es leads.walks.log
-            leads.walks.plain s p w context session link given a run sends at_sent
+            leads.walks.plain s p w context session link given a run over sends at_sent
             (allowed_by app modules) c.session.seen d.session.seen (mark_of context)
             (mark_of a.context) leads.walks.walk same first begins
 

@@ -19,7 +19,7 @@ use Rattle.relay_tasks.specs.declared.peer.Purged.{Purged}
 use Rattle.relay_tasks.specs.declared.peer.Purged.TheVariants as answers
 use Rattle.relay_links.specs.Purger.{PurgerState}
 use Rattle.relay_links.specs.Told.{more}
-use Rattle.relay_links.specs.declared.Returned.{Returned}
+use Rattle.relay_connector.specs.declared.Returned.{Returned}
 use Rattle.relay_links.specs.declared.purger.PurgeCall.{PurgeCall}
 use Rattle.relay_session.specs.Response.{AreQueued, IsOpen}
 use Rattle.relay_session.specs.declared.session.HttpSession.{HttpSession}

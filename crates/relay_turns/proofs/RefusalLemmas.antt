@@ -6,7 +6,7 @@ use Rattle.relay_session.specs.declared.session.HttpSession.{HttpSession}
 use Rattle.relay_tasks.specs.declared.Error.{Error}
 use Rattle.relay_tasks.specs.declared.Fault.{Fault}
 use Rattle.relay_tasks.specs.declared.fault.FaultKind.{FaultKind}
-use Rattle.relay_links.specs.Connector.{IsConnectFault, connect_fault}
+use Rattle.relay_connector.specs.Connector.{IsConnectFault, connect_fault}
 use Rattle.relay_links.specs.Link.{LinkState, LinkStart}
 use Rattle.relay_links.specs.Told.{Gains}
 use Rattle.relay_links.proofs.GainsLemmas.{Gains-nothing}

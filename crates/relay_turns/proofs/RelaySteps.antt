@@ -14,6 +14,7 @@ use Rattle.relay_tasks.specs.declared.log.LogEntry.{LogEntry}
 use Rattle.relay_tasks.specs.declared.took.Pause.{Pause}
 use Rattle.relay_tasks.specs.declared.took.Pause.TheVariants.{NotReady, Silent}
 use Rattle.relay_links.specs.Count.{Rose, last_count}
+use Rattle.relay_connector.specs.Upstream.{SpeaksBytes}
 use Rattle.relay_links.specs.Link.{LinkState, LinkStart}
 use Rattle.relay_links.specs.declared.branch.Branch.{Branch}
 use Rattle.relay_links.specs.declared.branch.Branch.TheVariants as branch
@@ -283,7 +284,8 @@ module _ {L : Type 0} (state : L → LinkState) (start_at : L → LinkStart)
 
     -- its calls stand in the log, behind those before and these
     stands_on : (o : Origin) (p : Passed) (client : LinkState) (ahead : List ℕ)
-        (x : HookedExchange L) → HasFiltered o.called → IsUnderWay state start_at o p client ahead log x
+        (x : HookedExchange L) → HasFiltered o.called
+        → IsUnderWay state start_at o p client ahead log x
         → StandsIn log' o.called (calls_behind o.called log')
     stands_on o p client ahead x at_sent under =
         let h = under.holds.so_far.down.passed in
@@ -296,6 +298,7 @@ module _ {L : Type 0} (state : L → LinkState) (start_at : L → LinkStart) (s 
     (w : World) (log began : List LogEntry) (head sent : RequestHead) (x : HookedExchange L)
     (relayable : IsRelayable head) (sends : Sends log head sent)
     (stands : StandsIn log began (calls_behind began log)) (calm : w.client.faults ≡ s.faults)
+    (speaks : SpeaksBytes (start_at (link_of x)))
   where
     -- where it began
     abbrev there : Origin
@@ -315,6 +318,7 @@ module _ {L : Type 0} (state : L → LinkState) (start_at : L → LinkStart) (s 
       began = began;
       stands = stands;
       relayed = finished.relayed;
+      speaks = speaks;
       unshort = λ agrees neutral short. never_ends_short there p (filtering_of there log x.down)
           (state (link_of x)).ended finished.relayed.order agrees neutral short;
       calm = calm;
@@ -339,6 +343,7 @@ module _ {L : Type 0} (state : L → LinkState) (start_at : L → LinkStart) (s 
       began = began;
       stands = stands;
       early = over.early;
+      speaks = speaks;
       calm = calm;
       kept = over.leaves.serves;
       faultless = over.leaves.faultless;
@@ -371,6 +376,7 @@ module _ {L C : Type 0} (state : L → LinkState) (start_at : L → LinkStart)
     (s : Start) (p : Passed) (v : World) (client : LinkState) (ahead : List ℕ)
     (a : Box (Attempt L C)) (x : HookedExchange L) (context : C)
     (run : RunSoFar state start_at (opened_to s log) p v [] (Relay a))
+    (begun_so : start_at (link_of x) ≡ start_at (link_of a.value.exchange))
   where
     -- where its exchange began
     abbrev origin : Origin
@@ -388,6 +394,10 @@ module _ {L C : Type 0} (state : L → LinkState) (start_at : L → LinkStart)
     stands_now : StandsIn log' run.holds.began (calls_behind run.holds.began log')
     stands_now = stands_on state start_at log es log' more plain origin p v.client v.ahead
         a.value.exchange run.holds.at_sent run.holds.under_way
+
+    -- its link carries bytes still
+    speaks_now : SpeaksBytes (start_at (link_of x))
+    speaks_now = ap (λ (b : LinkStart). b.kind) begun_so ∙ run.holds.speaks
 
     -- the session that it leaves has the client's head, as hooks leave it
     abbrev LeavesHead : Type 0
@@ -421,6 +431,7 @@ module _ {L C : Type 0} (state : L → LinkState) (start_at : L → LinkStart)
         sent = run.holds.sent;
         relayable = run.holds.relayable;
         sends = sends_now;
+        speaks = speaks_now;
         began = run.holds.began;
         at_sent = run.holds.at_sent;
         under_way = under;
@@ -504,7 +515,7 @@ module _ {L C : Type 0} (state : L → LinkState) (start_at : L → LinkStart)
                 (λ same. cc)
                 (inl (relayed_whole state start_at s turns.passed now log' began head sent x
                 run.holds.relayable sends_now stands_now (calm ∙ run.calm)
-                (first ∙ run.holds.at_first) finished));
+                speaks_now (first ∙ run.holds.at_first) finished));
           }
           | inr over ↦ record {
             passed = turns.passed;
@@ -515,7 +526,8 @@ module _ {L C : Type 0} (state : L → LinkState) (start_at : L → LinkStart)
                 (opened_to s log') turns.passed head sent _ began _ over.early.order open_head)
                 (λ same. cc)
                 (inr (relayed_early state start_at s turns.passed now log' began head sent x
-                run.holds.relayable sends_now stands_now (calm ∙ run.calm) over));
+                run.holds.relayable sends_now stands_now (calm ∙ run.calm) speaks_now
+                over));
           }
         ]
 
@@ -552,6 +564,7 @@ module _ {L C : Type 0} (state : L → LinkState) (start_at : L → LinkStart)
           began = run.holds.began;
           stands = stands_now;
           why = own.why;
+          speaks = speaks_now;
           answers = own.answers;
           holds = own.holds;
           broken = λ fault is.
@@ -594,7 +607,7 @@ module _ {L C : Type 0} (state : L → LinkState) (start_at : L → LinkStart)
         part refused order =
             part_relayed (opened_to s log') turns.passed run.holds.head run.holds.sent
             a.value.lease.reused _ _ refused (filtering_of origin log' x.down) run.holds.began
-            run.holds.relayable sends_now turns.told.reused stands_now order
+            run.holds.relayable sends_now speaks_now turns.told.reused stands_now order
 
         by : (f : Fail) → ComesTo state start_at origin turns.passed client ahead log' x
             (step.Failed f)
@@ -996,8 +1009,8 @@ alive_walks allows false true old new mark mark' none still w = absurd (true≢f
 alive_walks allows true lost old new mark mark' none still w = absurd (true≢false none)
 
 module _ {L C M K : Type 0} (state : L → LinkState) (start_at : L → LinkStart)
-    (allows : Standing → LogEntry → Type 0) (mark_of : C → ℕ) (w x : World) (calls mid : Calls M K C)
-    (phase next : Phase L C) (did : Turn) (asked : Bool)
+    (allows : Standing → LogEntry → Type 0) (mark_of : C → ℕ) (w x : World)
+    (calls mid : Calls M K C) (phase next : Phase L C) (did : Turn) (asked : Bool)
     (within : TurnsWithin state start_at w.client x.client w.ahead x.ahead (log_of calls)
     (log_of mid) phase next did asked)
     (enters : (a b : Box (Attempt L C)) → phase ≡ Relay a → next ≡ Relay b
@@ -1031,7 +1044,8 @@ module _ {L C M K : Type 0} (state : L → LinkState) (start_at : L → LinkStar
 
     -- the calls before it
     own_so_far : CallsSoFar allows mark_of calls phase → IsRelayingCalls allows mark_of calls own
-    own_so_far so_far = subst (λ (k : Phase L C). CallsSoFar allows mark_of calls k) within.was so_far
+    own_so_far so_far =
+        subst (λ (k : Phase L C). CallsSoFar allows mark_of calls k) within.was so_far
 
     -- and the run, of an open request
     own_run : (s : Start) (p : Passed) → IsRelayingCalls allows mark_of calls own
@@ -1106,7 +1120,8 @@ module _ {L C M K : Type 0} (state : L → LinkState) (start_at : L → LinkStar
             → x.connect_faults ≡ w.connect_faults
             → Advances {C = C} state start_at (called_to s (log_of mid)) x next
         goes_on on same =
-            subst (λ (k : Phase L C). Advances {C = C} state start_at (called_to s (log_of mid)) x k)
+            subst
+            (λ (k : Phase L C). Advances {C = C} state start_at (called_to s (log_of mid)) x k)
             (sym within.stands)
             (run_on s (Relay (turned within.attempt within.exchange within.context)) so_far on same)
 
@@ -1114,8 +1129,9 @@ module _ {L C M K : Type 0} (state : L → LinkState) (start_at : L → LinkStar
             → Advances {C = C} state start_at (called_to s (log_of mid)) x next
         own_moved is same =
             let turns = own_turn step.Moved is in
-            goes_on (moves state start_at (log_of calls) entries.0 (log_of mid) entries.1 entries.2 s
-            p w x.client x.ahead within.attempt within.exchange within.context run turns
+            goes_on (moves state start_at (log_of calls) entries.0 (log_of mid) entries.1 entries.2
+            s p w x.client x.ahead within.attempt within.exchange within.context run
+            within.turns.same_start turns
             (within.turns.calm (ap says_failed is)) within.turns.same_first
             (leads_head turns.comes_to.alive)) same
 
@@ -1124,8 +1140,9 @@ module _ {L C M K : Type 0} (state : L → LinkState) (start_at : L → LinkStar
             → Advances {C = C} state start_at (called_to s (log_of mid)) x next
         own_waited pause is same =
             let turns = own_turn (step.Waited pause) is in
-            goes_on (waits state start_at (log_of calls) entries.0 (log_of mid) entries.1 entries.2 s
-            p w x.client x.ahead within.attempt within.exchange within.context run pause turns
+            goes_on (waits state start_at (log_of calls) entries.0 (log_of mid) entries.1 entries.2
+            s p w x.client x.ahead within.attempt within.exchange within.context run
+            within.turns.same_start pause turns
             (within.turns.calm (ap says_failed is)) within.turns.same_first
             (leads_head turns.comes_to.alive)) same
 
@@ -1137,16 +1154,17 @@ module _ {L C M K : Type 0} (state : L → LinkState) (start_at : L → LinkStar
             run_on s _ so_far
             (finishes state start_at (log_of calls) entries.0 (log_of mid) entries.1 entries.2 s
             p w x.client x.ahead within.attempt within.exchange within.context run
-            (own_turn step.Finished is) (within.turns.calm (ap says_failed is))
-            within.turns.same_first) same
+            within.turns.same_start (own_turn step.Finished is)
+            (within.turns.calm (ap says_failed is)) within.turns.same_first) same
 
         own_left : (why : Fail) → did.step ≡ step.Failed why
             → LeavesOff state start_at (log_of calls) entries.0 (log_of mid) entries.1 entries.2 s
-            p w x.client x.ahead within.attempt within.exchange within.context run why
+            p w x.client x.ahead within.attempt within.exchange within.context run
+            within.turns.same_start why
         own_left why is =
             fails state start_at (log_of calls) entries.0 (log_of mid) entries.1 entries.2 s
-            p w x.client x.ahead within.attempt within.exchange within.context run why
-            (own_turn (step.Failed why) is) leads_head
+            p w x.client x.ahead within.attempt within.exchange within.context run
+            within.turns.same_start why (own_turn (step.Failed why) is) leads_head
 
         -- one that goes on leaves calls that do
         own_going : (to : Step) (is : did.step ≡ to)
@@ -1181,7 +1199,8 @@ module _ {L C M K : Type 0} (state : L → LinkState) (start_at : L → LinkStar
         subst (λ (o : Start). TurnedCounts state start_at more_tasks more_ends o x.client x.ahead []
         end)
         (sym (open_past (log_of calls) entries.0 (log_of mid) entries.1 entries.2 s r.unended))
-        (turn (subst (λ (o : Start). PhaseCounts state start_at tasks ends o w.client w.ahead [] phase)
+        (turn
+        (subst (λ (o : Start). PhaseCounts state start_at tasks ends o w.client w.ahead [] phase)
         (still_open s (log_of calls) r.unended) had))
 
     -- a turn that moved
@@ -1254,7 +1273,8 @@ module _ {L C M K : Type 0} (state : L → LinkState) (start_at : L → LinkStar
         let o = own_run s p r run in
         let there = turned within.attempt within.exchange within.context in
         let reuse = client_reusable within.exchange x.ahead first x.client.faults in
-        subst (λ (k : Phase L C). CallsSoFar allows mark_of new k) (sym (closes there within.stands))
+        subst (λ (k : Phase L C). CallsSoFar allows mark_of new k)
+        (sym (closes there within.stands))
         (finished_come allows mark_of mid new after (Served None reuse) (record {
           calls = calls_are there within.stands;
           reuse = reuse;
@@ -1316,7 +1336,8 @@ module _ {L C : Type 0} (state : L → LinkState) (start_at : L → LinkStart) w
             ∙ ap (λ (l : Lease). Relay (with_value a
             (record { exchange = now.exchange; lease = l; context = now.context })))
             (kept ∙ ap (λ (b : Attempt L C). b.lease) same);
-        turns = subst (λ (b : Attempt L C). TurnsOver state start_at before after ahead left log log'
+        turns = subst
+            (λ (b : Attempt L C). TurnsOver state start_at before after ahead left log log'
             b.exchange now.exchange did asked) same turns;
       }
 

@@ -9,7 +9,7 @@ use Rattle.std.specs.Global.{Box}
 use Rattle.std.proofs.Common.{◌≡◌, ℕ, true, false, List, [], ◌∷◌, true≢false, refl, sym, ap, subst}
 use Rattle.relay_tasks.specs.declared.log.LogEntry.{LogEntry}
 use Rattle.relay_links.specs.Link.{LinkState, LinkStart}
-use Rattle.relay_links.specs.declared.Returned.{Returned}
+use Rattle.relay_connector.specs.declared.Returned.{Returned}
 use Rattle.relay_core.specs.Past.{Origin}
 use Rattle.relay_hooks.specs.Standing.{Standing}
 use Rattle.relay_attempt.specs.Passed.{Passed}

@@ -175,7 +175,8 @@ pub settles_as : (session : HttpSession) (own filtered sent : RequestHead)
     → IfErr answer (λ why. (why ≡ fail.Error unframed) × (request_framing sent ≡ None))
     → Makes (Settles session filtered) answer
 settles_as session own filtered sent (Ok head) is made ok err = λ asked asks.
-    subst (λ (h : RequestHead). SettlesFramed (client_in session) asked filtered (Ok h)) (sym ok.0) (
+    subst (λ (h : RequestHead). SettlesFramed (client_in session) asked filtered (Ok h))
+    (sym ok.0) (
       subst (λ (h : RequestHead). SentHead over.H1 (client_in session) h filtered (Ok sent))
           (one_head own asked session is asks) made,
       some_framing (request_framing sent) ok.1,

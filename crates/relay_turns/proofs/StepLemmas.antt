@@ -1,11 +1,11 @@
 -- A step takes the run so far on, and the end adds up what it says.
 use Rattle.std.specs.Global.{Box}
 use Rattle.std.proofs.Common.{◌≡◌, ◌≢◌, ℕ, ◌+◌, ◌≤◌, Bool, true, false, List, [], ◌∷◌, ◌++◌, Option, None, Some, Ok, Err, map, true≢false, ◌⊎◌, refl, sym, ap, subst, ◌∙◌, inl, inr, append_assoc, append-nil, length, min, arith}
-use Rattle.relay_links.specs.Connector.{Offer}
+use Rattle.relay_connector.specs.Connector.{Handed, Offer, Takes, handed}
 use Rattle.relay_links.specs.Count.{last_count}
-use Rattle.relay_links.specs.Link.{LinkState, LinkStart, LinkItems}
+use Rattle.relay_links.specs.Link.{LinkState, LinkStart}
 use Rattle.relay_links.specs.Told.{more, Gains}
-use Rattle.relay_links.specs.declared.Returned.{Returned}
+use Rattle.relay_connector.specs.declared.Returned.{Returned}
 use Rattle.relay_session.specs.declared.session.HttpSession.{HttpSession}
 use Rattle.relay_tasks.specs.declared.Error.{Error}
 use Rattle.relay_tasks.specs.declared.Fault.{Fault}
@@ -19,7 +19,7 @@ use Rattle.relay_request.specs.Bound.{IsWithin, LinkGave, OwnGave, PhaseCounts, 
 use Rattle.relay_request.specs.Passed.{World, Start, origin_at, IsUnsent}
 use Rattle.relay_request.specs.Endings.{error_of, IsErrorOf, EndsLinked, EndsUnlinked, AttemptsUnfinished, AttemptsUnlinked, IsHalfRefused, EndsReturned, EndsWith}
 use Rattle.relay_request.specs.Owed.{IsGivenBack, IsAnswering, IsHalfGiven}
-use Rattle.relay_request.specs.Taken.{Takes, offers_for, offers_before, offers_of_turn}
+use Rattle.relay_request.specs.Taken.{offers_for, offers_before, offers_of_turn}
 use Rattle.relay_request.specs.Legs.{RepeatsOn, rebased}
 use Rattle.relay_request.specs.Phases.{IsLeased, IsFailing, IsGoing, IsRelaying, RunSoFar}
 use Rattle.relay_request.specs.Refusals.{faults_for, faults_told, attempts_in, faults_before, faults_of_turn}
@@ -189,12 +189,13 @@ module _ {L : Type 0} (start_at : L → LinkStart) where
   -- what was taken is the same, once the link was handed back
   offered_back : (link : L) (lease : Lease) (r : Returned L) (attempts : List AttemptRecord)
       (a : AttemptRecord) → r.link ≡ link → attempts ≡ tries_in lease ++ a ∷ []
-      → map Err (faults_told (tries_in lease)) ++ Ok (start_at link).items ∷ []
+      → map Err (faults_told (tries_in lease)) ++ Ok (handed (start_at link)) ∷ []
       ≡ offers_for start_at (r ∷ []) attempts
   offered_back link lease r attempts a is are =
-      ap (λ (l : L). map Err (faults_told (tries_in lease)) ++ Ok (start_at l).items ∷ []) (sym is)
+      ap (λ (l : L). map Err (faults_told (tries_in lease)) ++ Ok (handed (start_at l)) ∷ [])
+      (sym is)
       ∙ ap (λ (xs : List AttemptRecord).
-      map Err (faults_told xs) ++ Ok (start_at r.link).items ∷ [])
+      map Err (faults_told xs) ++ Ok (handed (start_at r.link)) ∷ [])
       (sym (tries_before (tries_in lease) attempts a are))
 
 module _ {L C : Type 0} (state : L → LinkState) (start_at : L → LinkStart) where
@@ -812,7 +813,8 @@ module _ {L C : Type 0} (state : L → LinkState) (start_at : L → LinkStart) w
         taken = offers_of_turn start_at phase next;
         takes = takes;
         offered = carries ∙ ap (λ (k : Phase L C). offers_before start_at [] k) r.is
-            ∙ ap (λ (l : L). map Err (faults_told (tries_in r.lease)) ++ Ok (start_at l).items ∷ [])
+            ∙ ap
+            (λ (l : L). map Err (faults_told (tries_in r.lease)) ++ Ok (handed (start_at l)) ∷ [])
             (sym back.hands.is_link);
         uses = λ n had.
             let turn = subst (λ (k : Phase L C). TurnCounts state start_at n client x.client
@@ -993,7 +995,7 @@ module _ {L C : Type 0} (state : L → LinkState) (start_at : L → LinkStart) w
       → EndsLinked s p w (state link) (start_at link) keep (error_of outcome) outcome
       → ((r : Returned L) → r.link ≡ link → IsStalled state start_at w phase
       → IsQuiet state start_at s p w (r ∷ []))
-      → attempts_in phase ≡ tries_in lease → items_held start_at phase ≡ (start_at link).items ∷ []
+      → attempts_in phase ≡ tries_in lease → items_held start_at phase ≡ handed (start_at link) ∷ []
       → ((n : ℕ) → PhaseUses state start_at n [] phase → LinkUses state start_at n link)
       → ((tasks ends : ℕ) → PhaseCounts state start_at tasks ends s w.client w.ahead [] phase
       → IsWithin tasks ends (most_sides (1 + length (tries_in lease))) s w.client
@@ -1019,7 +1021,7 @@ module _ {L C : Type 0} (state : L → LinkState) (start_at : L → LinkStart) w
         offered = sym (offered_back start_at link lease back.entry ending.attempts
             back.hands.attempt back.hands.is_link back.hands.attempts_are)
             ∙ sym (offers_are start_at phase (faults_told (tries_in lease))
-            ((start_at link).items ∷ [])
+            (handed (start_at link) ∷ [])
             (ap (λ (xs : List AttemptRecord). faults_told xs) none) holds);
         uses = λ n asked. subst (λ (l : L). LinkUses state start_at n l)
             (sym back.hands.is_link) (linked n asked);
@@ -1104,7 +1106,7 @@ module _ {L C : Type 0} (state : L → LinkState) (start_at : L → LinkStart) w
         ∙ ap (λ (rs : List (Returned L)). faults_for rs attempts) (append-nil own);
     offered = ap (λ (l : List AttemptRecord). offers_for start_at (own ++ []) l) same
         ∙ ap (λ (rs : List (Returned L)). offers_for start_at rs attempts) (append-nil own)
-        ∙ ap (λ (xs : List (Option LinkItems)). map Err (faults_for own attempts) ++ map Ok xs)
+        ∙ ap (λ (xs : List Handed). map Err (faults_for own attempts) ++ map Ok xs)
         (sym (append-nil (items_back start_at own)));
     uses = λ n asked. subst (λ (rs : List (Returned L)). OwnUses state start_at n rs)
         (sym (append-nil own)) asked;
@@ -1184,7 +1186,7 @@ module _ {L C : Type 0} (state : L → LinkState) (start_at : L → LinkStart) w
             ∙ ap (λ (rs : List (Returned L)). faults_for rs attempts) (append-nil own);
         offered = ap (λ (l : List AttemptRecord). offers_for start_at (own ++ []) l) gives.made
             ∙ ap (λ (rs : List (Returned L)). offers_for start_at rs attempts) (append-nil own)
-            ∙ ap (λ (xs : List (Option LinkItems)). map Err (faults_for own attempts) ++ map Ok xs)
+            ∙ ap (λ (xs : List Handed). map Err (faults_for own attempts) ++ map Ok xs)
             (sym (append-nil (items_back start_at own)));
         uses = λ n asked. subst (λ (rs : List (Returned L)). OwnUses state start_at n rs)
             (sym (append-nil own)) asked;
@@ -1249,7 +1251,7 @@ module _ {L C : Type 0} (state : L → LinkState) (start_at : L → LinkStart) w
         inl (part_relayed s p run.holds.head run.holds.sent a.value.lease.reused _ _ None
             (filtering_of (origin_at s run.holds.head run.holds.sent a.value.lease.reused
             run.holds.began) s.called a.value.exchange.down) run.holds.began
-            run.holds.relayable run.holds.sends run.holds.leased.reused
+            run.holds.relayable run.holds.sends run.holds.speaks run.holds.leased.reused
             (relaying_stands state start_at (origin_at s run.holds.head run.holds.sent
             a.value.lease.reused run.holds.began) p w.client w.ahead s.called a.value.exchange
             run.holds.at_sent run.holds.under_way)

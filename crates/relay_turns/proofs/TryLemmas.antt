@@ -9,10 +9,10 @@ use Rattle.relay_tasks.specs.Error.{error_of_fault, may_retry}
 use Rattle.relay_tasks.specs.declared.Error.{Error}
 use Rattle.relay_tasks.specs.declared.Fault.{Fault}
 use Rattle.relay_tasks.specs.declared.Peer.{Peer}
-use Rattle.relay_links.specs.Connector.{IsConnectFault, connect_fault}
+use Rattle.relay_connector.specs.Connector.{IsConnectFault, connect_fault}
 use Rattle.relay_tasks.specs.declared.log.LogEntry.{LogEntry}
 use Rattle.relay_links.specs.Link.{LinkState, LinkStart}
-use Rattle.relay_links.specs.declared.Returned.{Returned}
+use Rattle.relay_connector.specs.declared.Returned.{Returned}
 use Rattle.relay_attempt.specs.Passed.{Passed}
 use Rattle.relay_request.specs.Endings.{AttemptsFailed, AttemptsUnfinished, EndsWith, MadeAhead}
 use Rattle.relay_request.specs.Passed.{World, Start, opened_to}

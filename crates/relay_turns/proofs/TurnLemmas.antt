@@ -4,9 +4,9 @@ use Rattle.std.specs.Global.{Box}
 use Rattle.relay_tasks.specs.declared.Error.{Error}
 use Rattle.relay_tasks.specs.declared.Fault.{Fault}
 use Rattle.relay_tasks.specs.declared.log.LogEntry.{LogEntry}
-use Rattle.relay_links.specs.Connector.{Offer}
-use Rattle.relay_links.specs.Link.{LinkState, LinkStart, LinkItems}
-use Rattle.relay_links.specs.declared.Returned.{Returned}
+use Rattle.relay_connector.specs.Connector.{GetResult, Handed, handed}
+use Rattle.relay_links.specs.Link.{LinkState, LinkStart}
+use Rattle.relay_connector.specs.declared.Returned.{Returned}
 use Rattle.relay_request.specs.Closing.{Rests, Settles}
 use Rattle.relay_attempt.specs.Passed.{Passed}
 use Rattle.relay_session.specs.declared.session.HttpSession.{HttpSession}
@@ -170,11 +170,12 @@ module _ {L C : Type 0} (state : L → LinkState) (start_at : L → LinkStart) w
       → offers_before start_at [] phase ++ offers_of_turn start_at phase next
       ≡ offers_before start_at [] next
   relaying_carries phase next is same items =
-      ap (λ (os : List Offer). offers_before start_at [] phase ++ os) (relaying_takes phase next is)
+      ap (λ (os : List GetResult). offers_before start_at [] phase ++ os)
+      (relaying_takes phase next is)
       ∙ append-nil (offers_before start_at [] phase)
       ∙ ap (λ (xs : List AttemptRecord). map Err (faults_for {L = L} [] xs)
       ++ map Ok (items_held start_at phase)) (sym same)
-      ∙ ap (λ (xs : List (Option LinkItems)). map Err (faults_before [] next) ++ map Ok xs)
+      ∙ ap (λ (xs : List Handed). map Err (faults_before [] next) ++ map Ok xs)
       (sym items)
 
   -- a phase that holds no link was asked as often as what was handed back
@@ -292,14 +293,14 @@ module _ {L C : Type 0} (state : L → LinkState) (start_at : L → LinkStart) w
   -- what was taken before it was, before the next phase
   pub prepare_offers : (context : C) (session : Box HttpSession) (link : L) (lease : Lease)
       (next : Phase L C) → attempts_in next ≡ tries_in lease
-      → items_held start_at next ≡ (start_at link).items ∷ []
+      → items_held start_at next ≡ handed (start_at link) ∷ []
       → offers_before {C = C} start_at [] (Prepare context session link lease)
       ≡ offers_before start_at [] next
   prepare_offers context session link lease next same items = rw (items, same) refl
 
   pub broken_offers : (context : C) (session : Box HttpSession) (link : L) (lease : Lease)
       (keep : Bool) (e : Error) (next : Phase L C) → attempts_in next ≡ tries_in lease
-      → items_held start_at next ≡ (start_at link).items ∷ []
+      → items_held start_at next ≡ handed (start_at link) ∷ []
       → offers_before {C = C} start_at [] (Broken context session link lease keep e)
       ≡ offers_before start_at [] next
   broken_offers context session link lease keep e next same items = rw (items, same) refl

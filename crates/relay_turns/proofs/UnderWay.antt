@@ -2,11 +2,11 @@
 use Rattle.std.proofs.Common.{◌≡◌, ◌≢◌, ℕ, ◌+◌, min, ◌≤◌, true, false, List, [], ◌∷◌, ◌++◌, Option, Err, true≢false, ◌⊎◌, refl, sym, ap, subst, ◌∙◌, inl, inr, arith, length, length-append, map, drop, append_assoc, append-nil}
 use Rattle.std.proofs.lemmas.List.{drop-append-le}
 use Rattle.relay_links.specs.Count.{last_count, up}
-use Rattle.relay_links.specs.Connector.{Offer}
+use Rattle.relay_connector.specs.Connector.{GetResult, Offer, Takes}
 use Rattle.relay_links.specs.Link.{LinkState, LinkStart}
 use Rattle.relay_links.specs.Told.{more, Gains}
 use Rattle.relay_links.proofs.GainsLemmas.{Gains-nothing, Gains-twice}
-use Rattle.relay_links.specs.declared.Returned.{Returned}
+use Rattle.relay_connector.specs.declared.Returned.{Returned}
 use Rattle.relay_tasks.specs.declared.Fault.{Fault}
 use Rattle.relay_tasks.specs.declared.log.LogEntry.{LogEntry}
 use Rattle.relay_tasks.specs.declared.took.Pause.TheVariants.{NotReady, Silent}
@@ -19,7 +19,7 @@ use Rattle.relay_request.specs.Endings.{IsEnded}
 use Rattle.relay_request.specs.Exact.{IsExact}
 use Rattle.relay_request.specs.Legs.{AreLegs, BeginsAt, Leg, LegsUse, LegsWithin, behind, rebased, taken_by, taken_in, taken_to}
 use Rattle.relay_request.specs.Passed.{World, Start, called_to, opened_to, start_of, nothing}
-use Rattle.relay_request.specs.Taken.{Takes, offers_before, offers_for}
+use Rattle.relay_request.specs.Taken.{offers_before, offers_for}
 use Rattle.relay_request.specs.Phases.{RunSoFar}
 use Rattle.relay_request.specs.Refusals.{attempts_in, faults_for, faults_before, faults_told}
 use Rattle.relay_request.specs.Stock.{items_held}
@@ -84,7 +84,7 @@ module _ {L : Type 0} (state : L → LinkState) (start_at : L → LinkStart) whe
       }
 
 -- what a request took that was refused a link with these, and holds none
-abbrev refused_with : List Fault → List Offer
+abbrev refused_with : List Fault → List GetResult
 refused_with faults = map Err faults ++ []
 
 -- behind them that is nothing
@@ -98,10 +98,10 @@ as_long [] = omega arith
 as_long (fault ∷ faults) = let rest = as_long faults in omega (arith, rest)
 
 -- what was taken behind so many goes on by what is taken
-taken_on : (earlier : List Offer) (n : ℕ) (had more_taken : List Offer) → n ≤ length had
+taken_on : (earlier : List GetResult) (n : ℕ) (had more_taken : List GetResult) → n ≤ length had
     → earlier ++ drop n (had ++ more_taken) ≡ (earlier ++ drop n had) ++ more_taken
 taken_on earlier n had more_taken fits =
-    ap (λ (os : List Offer). earlier ++ os) (drop-append-le n had more_taken fits)
+    ap (λ (os : List GetResult). earlier ++ os) (drop-append-le n had more_taken fits)
     ∙ sym (append_assoc earlier (drop n had) more_taken)
 
 module _ {L C : Type 0} (state : L → LinkState) (start_at : L → LinkStart) where
@@ -272,7 +272,7 @@ module _ {L C : Type 0} (state : L → LinkState) (start_at : L → LinkStart) w
       is =
       let tried : ℕ = length (faults_told (behind s under.legs).tried) in
       let backs : List (Returned L) = map (λ (leg : Leg L). leg.back) under.legs in
-      let had : List Offer = offers_before start_at under.own m.phase in
+      let had : List GetResult = offers_before start_at under.own m.phase in
       record {
         legs = under.legs;
         are_legs = legs_later state start_at s old new under.legs front under.are_legs;
@@ -291,11 +291,11 @@ module _ {L C : Type 0} (state : L → LinkState) (start_at : L → LinkStart) w
           arith,
           under.tells,
           length-append had steps.offered.taken,
-          ap (λ (os : List Offer). length os) steps.offered.are,
+          ap (λ (os : List GetResult). length os) steps.offered.are,
         );
-        offered = subst (λ (os : List Offer). Takes h (taken_by start_at under.legs
+        offered = subst (λ (os : List GetResult). Takes h (taken_by start_at under.legs
             ++ drop tried os) l) steps.offered.are
-            (subst (λ (os : List Offer). Takes h os l)
+            (subst (λ (os : List GetResult). Takes h os l)
             (sym (taken_on (taken_by start_at under.legs) tried had steps.offered.taken
             under.tells)) (takes_twice h k l (taken_by start_at under.legs ++ drop tried had)
             steps.offered.taken
@@ -333,7 +333,7 @@ module _ {L C : Type 0} (state : L → LinkState) (start_at : L → LinkStart) w
       let at : Start = called_to (behind s legs) new in
       let tried : ℕ = length (faults_told (behind s legs).tried) in
       let backs : List (Returned L) = map (λ (k : Leg L). k.back) legs in
-      let had : List Offer = offers_before start_at [] m.phase in
+      let had : List GetResult = offers_before start_at [] m.phase in
       let attempts : List AttemptRecord = leg.tries ++ leg.attempt ∷ [] in
       let uses_had : PhaseUses state start_at under.uses.upstream [] m.phase =
       subst (λ (rs : List (Returned L)). PhaseUses state start_at under.uses.upstream rs m.phase)
@@ -351,7 +351,7 @@ module _ {L C : Type 0} (state : L → LinkState) (start_at : L → LinkStart) w
       let taken_now : taken_in start_at leg ≡ drop tried had ++ steps.taken =
       ap (λ (xs : List AttemptRecord). drop (length (faults_told xs)) (taken_to start_at leg))
       start_tried
-      ∙ ap (λ (os : List Offer). drop tried os) (sym took)
+      ∙ ap (λ (os : List GetResult). drop tried os) (sym took)
       ∙ drop-append-le tried had steps.taken fits in
       let nothing_left : drop (length (faults_told attempts)) (offers_before start_at [] n.phase)
       ≡ [] =
@@ -361,10 +361,10 @@ module _ {L C : Type 0} (state : L → LinkState) (start_at : L → LinkStart) w
       let all_taken : taken_by start_at (legs ++ leg ∷ [])
       ++ drop (length (faults_told attempts)) (offers_before start_at [] n.phase)
       ≡ (taken_by start_at legs ++ drop tried had) ++ steps.taken =
-      ap (λ (os : List Offer). taken_by start_at (legs ++ leg ∷ []) ++ os) nothing_left
+      ap (λ (os : List GetResult). taken_by start_at (legs ++ leg ∷ []) ++ os) nothing_left
       ∙ append-nil (taken_by start_at (legs ++ leg ∷ []))
       ∙ taken_more start_at legs leg
-      ∙ ap (λ (os : List Offer). taken_by start_at legs ++ os) taken_now
+      ∙ ap (λ (os : List GetResult). taken_by start_at legs ++ os) taken_now
       ∙ sym (append_assoc (taken_by start_at legs) (drop tried had) steps.taken) in
       let more_legs : behind s (legs ++ leg ∷ []) ≡ rebased (behind s legs) leg =
       behind_more s legs leg in
@@ -400,7 +400,7 @@ module _ {L C : Type 0} (state : L → LinkState) (start_at : L → LinkStart) w
         offered = subst (λ (xs : List AttemptRecord). Takes h (taken_by start_at (legs ++ leg ∷ [])
             ++ drop (length (faults_told xs)) (offers_before start_at [] n.phase)) l)
             (sym more_tried)
-            (subst (λ (os : List Offer). Takes h os l) (sym all_taken)
+            (subst (λ (os : List GetResult). Takes h os l) (sym all_taken)
             (takes_twice h k l (taken_by start_at legs ++ drop tried had) steps.taken
             (subst (λ (rs : List (Returned L)). Takes h (taken_by start_at legs
             ++ drop tried (offers_before start_at rs m.phase)) k) steps.none under.offered)
@@ -534,7 +534,7 @@ module _ {L C : Type 0} (state : L → LinkState) (start_at : L → LinkStart) w
             (sym told) under.refused);
         offered = subst (λ (q : Start). Takes h (taken_by start_at under.legs
             ++ drop (length (faults_told q.tried)) (offers_for start_at own attempts)) l) (sym is)
-            (subst (λ (os : List Offer). Takes h (taken_by start_at under.legs
+            (subst (λ (os : List GetResult). Takes h (taken_by start_at under.legs
             ++ drop (length (faults_told (behind s under.legs).tried)) os) l) (sym ends.offered)
             (subst (λ (o : Option (List Offer)). Takes h (taken_by start_at under.legs
             ++ drop (length (faults_told (behind s under.legs).tried))

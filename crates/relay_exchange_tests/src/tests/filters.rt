@@ -5,11 +5,11 @@ use super::scripts::{Gives, has_taken, link};
 use bytes::Bytes;
 use http::Method;
 use http_header::{CONTENT_LENGTH, HeaderValue};
-use relay_core::{Down, Piece, UpKind};
+use relay_core::{Down, Piece};
 use relay_filters::{Hooked, Rested};
 use relay_h1::{Connection, Framing};
 use relay_hooks::{App, Counted, NoModules, ProxyHttp, Session};
-use relay_links::ScriptLink;
+use relay_links::{ScriptLink, UpKind};
 use relay_session::HttpSession;
 use relay_sides::ClientSide;
 use relay_tasks::{

@@ -28,17 +28,30 @@ pub(super) struct Visit {
 }
 
 /// An application that counts its calls and else decides nothing, but a delay for each piece of a
-/// response that goes to the client. Its mark is always 0, and tells nothing of the count. What its
-/// connection keeps is the count of its last request.
+/// response that goes to the client, and whether another attempt follows each that failed. Its mark
+/// is always 0, and tells nothing of the count. What its connection keeps is the count of its last
+/// request.
 #[derive(Drop)]
 pub(super) struct Counting {
     delay: Option<u64>,
+    tries_again: bool,
 }
 
 impl Counting {
     /// The application that asks for that delay, in milliseconds, or for none.
     pub(super) fn new(delay: Option<u64>) -> Counting {
-        Counting { delay }
+        Counting {
+            delay,
+            tries_again: false,
+        }
+    }
+
+    /// The application that marks the error of each attempt for another one.
+    pub(super) fn trying_again() -> Counting {
+        Counting {
+            delay: None,
+            tries_again: true,
+        }
     }
 }
 
@@ -327,7 +340,11 @@ impl ProxyHttp for Counting {
         client_reused: bool,
     ) -> Error {
         visit.count();
-        defaults::error_while_proxy(session, error, client_reused)
+        let mut error = defaults::error_while_proxy(session, error, client_reused);
+        if self.tries_again {
+            error.set_retry(true);
+        }
+        error
     }
 
     fn fail_to_connect(

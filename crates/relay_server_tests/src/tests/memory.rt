@@ -1,7 +1,8 @@
 //! Serving clients in memory.
 use super::support::{ANSWER, MemoryPoller, REQUEST, SENT, WRITTEN, link};
 use bytes::Bytes;
-use relay_links::{MemoryPurger, PeerScript, Poller, ScriptConnector, ScriptLink};
+use relay_connector::{AnyScript, PeerScript, ScriptConnector, Upstream};
+use relay_links::{MemoryPurger, Poller, ScriptLink};
 use relay_proxy::{Defaults, HttpProxy, ServerConf};
 use relay_server::{ServeEnd, serve_with};
 use relay_tasks::{Peer, Purged};
@@ -18,8 +19,9 @@ fn proxy(alloc: Global, answers: usize) -> Result<Proxy, Fail> {
     for _ in 0..answers {
         entries.push(PeerScript {
             name: Bytes::from_static(b"a"),
-            link: link(alloc, &[ANSWER])?,
+            link: Upstream::H1(link(alloc, &[ANSWER])?),
             connect: None,
+            again: false,
         })?;
     }
     let connector = ScriptConnector::new(alloc, entries)
@@ -52,6 +54,14 @@ fn taken(link: &ScriptLink) -> &str {
     str::from_utf8(link.taken()).unwrap_or("no text")
 }
 
+/// What was sent over a link to the peer.
+fn sent(link: &AnyScript) -> &str {
+    match link {
+        Upstream::H1(link) => taken(link),
+        Upstream::H2(_) | Upstream::Custom(_) => "messages",
+    }
+}
+
 /// What the connection took that was closed first.
 fn first_taken(poller: &MemoryPoller) -> &str {
     match poller.closed.first() {
@@ -80,7 +90,7 @@ fn serves_two_clients_one_request_each(rt: HostRuntime) -> Result<(), Fail> {
     }
     assert_eq!(rt; proxy.connector().returned().len(), 2);
     for returned in proxy.connector().returned() {
-        assert_eq!(rt; taken(&returned.link), SENT);
+        assert_eq!(rt; sent(&returned.link), SENT);
     }
     Ok(())
 }

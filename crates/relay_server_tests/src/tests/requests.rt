@@ -2,10 +2,9 @@
 use super::counting::Counting;
 use super::support::link;
 use bytes::Bytes;
+use relay_connector::{AnyScript, PeerScript, ScriptConnector, Upstream};
 use relay_h1::Connection;
-use relay_links::{
-    CountDelay, MemoryPurger, PeerScript, RoundRobin, ScriptConnector, ScriptLink, ShutdownAt,
-};
+use relay_links::{CountDelay, MemoryPurger, RoundRobin, ScriptLink, ShutdownAt};
 use relay_proxy::{HttpProxy, Outside, ServerConf};
 use relay_tasks::Purged;
 use std::alloc::Global;
@@ -43,20 +42,41 @@ struct Came {
     millis: u64,
 }
 
-/// A proxy of an application that asks for that delay, whose peer answers one request.
-pub(super) fn proxy(alloc: Global, delay: Option<u64>) -> Result<Proxy, Fail> {
-    let mut entries = Vec::new(alloc);
-    entries.push(PeerScript {
+/// The entry of a link, which is one that is used again or not.
+pub(super) fn entry(link: AnyScript, again: bool) -> PeerScript {
+    PeerScript {
         name: Bytes::from_static(b"a"),
-        link: link(alloc, &ANSWERED)?,
+        link,
         connect: None,
-    })?;
+        again,
+    }
+}
+
+/// A link to a peer that answers one request.
+pub(super) fn answering(alloc: Global) -> Result<AnyScript, Fail> {
+    Ok(Upstream::H1(link(alloc, &ANSWERED)?))
+}
+
+/// A proxy of that application over the links of these entries. Each request makes two attempts at
+/// most.
+pub(super) fn proxy_over(
+    alloc: Global,
+    application: Counting,
+    entries: Vec<PeerScript>,
+) -> Result<Proxy, Fail> {
     let connector = ScriptConnector::new(alloc, entries)
         .ok()
         .ok_or("no memory")?;
     let purger = MemoryPurger::new(alloc, Purged::NotFound);
-    let conf = ServerConf { max_retries: 1 };
-    Ok(HttpProxy::new(alloc, Counting::new(delay), conf, connector, purger))
+    let conf = ServerConf { max_retries: 2 };
+    Ok(HttpProxy::new(alloc, application, conf, connector, purger))
+}
+
+/// A proxy of an application that asks for that delay, whose peer answers one request.
+pub(super) fn proxy(alloc: Global, delay: Option<u64>) -> Result<Proxy, Fail> {
+    let mut entries = Vec::new(alloc);
+    entries.push(entry(answering(alloc)?, false))?;
+    proxy_over(alloc, Counting::new(delay), entries)
 }
 
 /// The client that asks.

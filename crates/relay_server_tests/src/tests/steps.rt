@@ -1,12 +1,13 @@
 //! A request behind an application that counts, step by step: when its delays are handed over.
 ghost use Rattle.std.specs.Prelude.{◌≤◌};
-ghost use Rattle.relay_links.specs.ScriptEntries.{links_out};
-ghost use Rattle.relay_links.specs.ScriptLink.{script_start, script_state};
+ghost use Rattle.relay_connector.specs.ScriptEntries.{links_out};
+ghost use Rattle.relay_connector.specs.ScriptConnector.{any_start, any_state};
 ghost use Rattle.relay_request.specs.Turn.{links_held};
 
 use super::counting::Counting;
 use super::requests::{Client, Proxy, TURNS, client, is_numbered, outside, proxy};
-use relay_links::{CountDelay, RoundRobin, ScriptConnector, ShutdownAt};
+use relay_connector::ScriptConnector;
+use relay_links::{CountDelay, RoundRobin, ShutdownAt};
 use relay_proxy::{Outside, RequestMachine, RunStep};
 use relay_tasks::Pause;
 use std::alloc::Global;
@@ -30,7 +31,7 @@ struct Request {
     outside: Outside<RoundRobin, ShutdownAt, CountDelay>,
     machine: RequestMachine<Counting, ScriptConnector>,
     delayed: Delayed,
-    ghost out: { links_held script_state script_start machine.machine.phase
+    ghost out: { links_held any_state any_start machine.machine.phase
         ≤ links_out proxy.connector },
 }
 

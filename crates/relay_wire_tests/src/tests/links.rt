@@ -1,6 +1,6 @@
 use bytes::Bytes;
 use relay_links::*;
-use relay_tasks::{Fault, FaultKind, Peer, PurgeAction, Purged, RetryType};
+use relay_tasks::{Fault, FaultKind, PurgeAction, Purged, RetryType};
 use std::alloc::{AllocError, Global};
 use std::io;
 
@@ -16,27 +16,6 @@ fn read_three<L: ByteLink>(link: &mut L) -> (Got, [u8; 3]) {
     let mut room = [0; 3];
     let got = link.read(&mut room);
     (got, room)
-}
-
-fn peer() -> Peer {
-    Peer {
-        address: Bytes::from_static(b"one"),
-        tls: false,
-        allows_h1: true,
-    }
-}
-
-/// A link from that connector, as a caller that is generic over connectors asks for it.
-fn get_from<C: Connector>(connector: &mut C, peer: &Peer) -> Result<(C::Byte, bool), Fault> {
-    connector.get(peer)
-}
-
-/// How the connector refuses, if it does.
-fn refusal(connector: &mut ScriptConnector) -> Option<RetryType> {
-    match get_from(connector, &peer()) {
-        Ok(_) => None,
-        Err(fault) => Some(fault.retry),
-    }
 }
 
 /// A link that reads so, and takes two bytes and then all.
@@ -85,51 +64,6 @@ fn keeps_what_it_takes(alloc: Global) -> Made<bool> {
 #[test]
 fn writes_are_answered_by_the_items_in_order(rt: HostRuntime) {
     assert!(rt; matches!(keeps_what_it_takes(rt.alloc()), Ok(true)));
-}
-
-fn script_of(alloc: Global, connect: Option<RetryType>) -> Made<PeerScript> {
-    Ok(PeerScript {
-        name: Bytes::from_static(b"one"),
-        link: link_of(alloc, ReadItem::Wait(1), ReadItem::End)?,
-        connect,
-    })
-}
-
-fn connector(alloc: Global) -> Option<ScriptConnector> {
-    let first = script_of(alloc, None).ok()?;
-    let second = script_of(alloc, Some(RetryType::Decided(true))).ok()?;
-    let peers = vec![in alloc; first, second].ok()?;
-    ScriptConnector::new(alloc, peers).ok()
-}
-
-/// Takes a link and hands it back; whether it was new.
-fn takes_new(connector: &mut ScriptConnector) -> bool {
-    match connector.get(&peer()) {
-        Ok((link, reused)) => {
-            connector.release(peer(), link, true);
-            !reused
-        }
-        Err(_) => false,
-    }
-}
-
-fn hands_out_its_entries(alloc: Global) -> Option<bool> {
-    let mut connector = connector(alloc)?;
-    let taken = takes_new(&mut connector);
-    let refused = refusal(&mut connector);
-    let past = refusal(&mut connector);
-    let kept = connector.returned().len() == 1 && connector.faults() == 2;
-    Some(
-        taken
-            && kept
-            && refused == Some(RetryType::Decided(true))
-            && past == Some(RetryType::Decided(false)),
-    )
-}
-
-#[test]
-fn a_connector_hands_out_its_entries_and_keeps_what_comes_back(rt: HostRuntime) {
-    assert!(rt; hands_out_its_entries(rt.alloc()) == Some(true));
 }
 
 fn lists(alloc: Global) -> Made<bool> {

@@ -4,7 +4,8 @@ ghost use Rattle.relay_tcp.specs.TcpConnector.{links_out};
 use bytes::Bytes;
 use mio::net::{TcpListener, TcpStream};
 use mio::{Events, Interest, Poll, Token};
-use relay_links::{ByteLink, Connector, Got, Put};
+use relay_connector::{Connector, Upstream};
+use relay_links::{ByteLink, Got, Put};
 use relay_tasks::{Fault, FaultKind, Peer, RetryType};
 use relay_tcp::*;
 use std::alloc::Global;
@@ -131,8 +132,8 @@ fn connect(
     ensures grows { links_out connector.old ≤ links_out connector.new }
 {
     match connector.get(&peer()) {
-        Ok((near, false)) => Some((near, accept(rt, listener)?)),
-        Ok((_, true)) | Err(_) => None,
+        Ok((Upstream::H1(near), false)) => Some((near, accept(rt, listener)?)),
+        Ok(_) | Err(_) => None,
     }
 }
 
@@ -141,15 +142,15 @@ fn reconnect(connector: &mut TcpConnector<HostRuntime>) -> Option<TcpLink>
     ensures { IfSome result (λ _. links_out connector.new ≡ links_out connector.old + 1) }
 {
     match connector.get(&peer()) {
-        Ok((near, true)) => Some(near),
-        Ok((_, false)) | Err(_) => None,
+        Ok((Upstream::H1(near), true)) => Some(near),
+        Ok(_) | Err(_) => None,
     }
 }
 
 /// Opens a link and hands it back, to be kept or not; its far end.
 fn release_new(rt: &HostRuntime, bench: &mut Bench, keep: bool) -> Option<TcpLink> {
     let (near, far) = connect(rt, &bench.listener, &mut bench.connector)?;
-    bench.connector.release(peer(), near, keep);
+    bench.connector.release(peer(), Upstream::H1(near), keep);
     Some(far)
 }
 
@@ -197,7 +198,7 @@ fn talks(rt: &HostRuntime, bench: &mut Bench) -> Option<bool> {
     let silent = read_four(&mut bench.waiting, &mut near, 1).0 == Got::NotReady;
     let there = reaches(&mut bench.waiting, &mut near, &mut far);
     let back = reaches(&mut bench.waiting, &mut far, &mut near);
-    bench.connector.release(peer(), near, false);
+    bench.connector.release(peer(), Upstream::H1(near), false);
     Some(silent && there && back && ends(&mut bench.waiting, &mut far))
 }
 
@@ -216,7 +217,7 @@ fn reaches_again(bench: &mut Bench, far: &mut TcpLink) -> bool {
     let unused = near.used() == 0 && near.faults() == 0;
     let there = reaches(&mut bench.waiting, &mut near, far);
     let back = reaches(&mut bench.waiting, far, &mut near);
-    bench.connector.release(peer(), near, true);
+    bench.connector.release(peer(), Upstream::H1(near), true);
     unused && there && back
 }
 
@@ -231,6 +232,19 @@ fn hands_out_again(rt: &HostRuntime, bench: &mut Bench) -> Option<bool> {
 fn a_kept_link_is_handed_out_again(rt: HostRuntime) -> Checked {
     let mut bench = set_up(&rt)?;
     assert!(rt; hands_out_again(&rt, &mut bench) == Some(true));
+    Ok(())
+}
+
+fn prefers_h1(rt: &HostRuntime, bench: &mut Bench) -> Option<bool> {
+    let _far = release_new(rt, bench, true)?;
+    bench.connector.prefer_h1(&peer());
+    Some(reuses(bench, peer()) == Some(true) && bench.connector.faults() == 0)
+}
+
+#[test]
+fn a_connector_that_is_told_of_http_1_keeps_its_links(rt: HostRuntime) -> Checked {
+    let mut bench = set_up(&rt)?;
+    assert!(rt; prefers_h1(&rt, &mut bench) == Some(true));
     Ok(())
 }
 
@@ -268,8 +282,8 @@ fn a_link_that_is_not_to_be_kept_is_not_handed_out(rt: HostRuntime) -> Checked {
 fn keep_two(rt: &HostRuntime, bench: &mut Bench) -> Option<(TcpLink, TcpLink)> {
     let (older, first) = connect(rt, &bench.listener, &mut bench.connector)?;
     let (newer, second) = connect(rt, &bench.listener, &mut bench.connector)?;
-    bench.connector.release(peer(), older, true);
-    bench.connector.release(peer(), newer, true);
+    bench.connector.release(peer(), Upstream::H1(older), true);
+    bench.connector.release(peer(), Upstream::H1(newer), true);
     Some((first, second))
 }
 
@@ -280,7 +294,8 @@ fn hands_out_what_stands(rt: &HostRuntime, bench: &mut Bench) -> Option<bool> {
     // The one that was kept before it stands.
     let mut next = reconnect(&mut bench.connector)?;
     let stands = reaches(&mut bench.waiting, &mut next, &mut standing);
-    Some(stands && reuses(bench, peer()) == Some(false))
+    let fresh = reuses(bench, peer()) == Some(false);
+    Some(stands && fresh && bench.connector.unexpected_data_connection_count() == 0)
 }
 
 #[test]
@@ -295,9 +310,10 @@ fn closes_where_bytes_came(rt: &HostRuntime, bench: &mut Bench) -> Option<bool> 
     let took = far.write(b"more") == Put::Took(4);
     pause(rt);
     let fresh = reuses(bench, peer()) == Some(false);
+    let counted = bench.connector.unexpected_data_connection_count() == 1;
     // It was closed, with its bytes unread.
     let got = read_four(&mut bench.waiting, &mut far, ROUNDS).0;
-    Some(took && fresh && (got == Got::End || got == Got::Failed(UNREAD)))
+    Some(took && fresh && counted && (got == Got::End || got == Got::Failed(UNREAD)))
 }
 
 #[test]
@@ -341,7 +357,7 @@ impl Holding {
     fn release(&mut self, count: usize) {
         for _ in 0..count {
             if let Some(link) = self.near.pop() {
-                self.connector.release(peer(), link, true);
+                self.connector.release(peer(), Upstream::H1(link), true);
             }
         }
     }
@@ -622,7 +638,8 @@ fn is_broken(waiting: &mut Waiting, mut link: TcpLink) -> bool {
 
 fn fails(bench: &mut Bench) -> bool {
     match bench.connector.get(&peer()) {
-        Ok((link, _)) => is_broken(&mut bench.waiting, link),
+        Ok((Upstream::H1(link), _)) => is_broken(&mut bench.waiting, link),
+        Ok(_) => false,
         Err(fault) => fault == UNCONNECTED,
     }
 }

@@ -8,8 +8,8 @@ ghost use Rattle.relay_core.specs.Pipe.{is_failure};
 
 use super::support::{NOTHING_TOLD, push, tell};
 use bytes::Bytes;
-use relay_core::{Down, Piece, Told, UpKind};
-use relay_links::Put;
+use relay_core::{Down, Piece, Told};
+use relay_links::{Put, UpKind};
 use relay_tasks::{Error, Fail, HttpTask, Pause, Result, TaskList, Took};
 use std::alloc::Global;
 

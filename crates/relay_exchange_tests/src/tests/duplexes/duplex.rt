@@ -2,7 +2,7 @@
 use super::client::{Client, sending};
 use super::upstream::{Upstream, serving};
 use relay_core::*;
-use relay_links::{RoundRobin, Schedule};
+use relay_links::{RoundRobin, Schedule, UpKind};
 use relay_tasks::{Error, ErrorType, Fail};
 use std::alloc::{AllocError, Global};
 

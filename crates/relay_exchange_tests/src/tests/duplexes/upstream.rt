@@ -2,12 +2,12 @@
 ghost use Rattle.std.specs.Prelude.{◌≡◌, false, true, None, Some};
 ghost use Rattle.relay_links.specs.Count.{last_count};
 ghost use Rattle.relay_links.specs.MuteLink.{mute_state, mute_start};
-ghost use Rattle.relay_core.specs.declared.step.UpKind.TheVariants.{H1};
+ghost use Rattle.relay_links.specs.declared.link.UpKind.TheVariants.{H1};
 
 use super::support::{NOTHING_TOLD, push, tell};
 use bytes::Bytes;
-use relay_core::{Told, Up, UpKind};
-use relay_links::Put;
+use relay_core::{Told, Up};
+use relay_links::{Put, UpKind};
 use relay_tasks::{Error, Fail, HttpTask, Result, TaskList, Took};
 use std::alloc::Global;
 

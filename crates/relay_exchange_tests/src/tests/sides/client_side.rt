@@ -2,9 +2,9 @@
 use super::super::scripts::{Gives, has_taken, link};
 use bytes::Bytes;
 use http_header::{CONTENT_LENGTH, HeaderValue};
-use relay_core::{Down, Piece, UpKind};
+use relay_core::{Down, Piece};
 use relay_h1::Connection;
-use relay_links::{Put, ScriptLink};
+use relay_links::{Put, ScriptLink, UpKind};
 use relay_session::HttpSession;
 use relay_sides::ClientSide;
 use relay_tasks::{Context, Fail, HttpTask, ResponseHeader, Result, TaskList, Took};

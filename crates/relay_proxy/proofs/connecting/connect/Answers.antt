@@ -1,5 +1,7 @@
 -- Over a link that the connector gave the exchange begins; where it gave none, its count rose.
 use Rattle.std.proofs.Common.{List, ap, refl, sym, ◌∙◌}
+use Rattle.relay_connector.specs.Upstream.{upstream_state, upstream_start}
+use Rattle.relay_connector.proofs.UpstreamLemmas.{speaks_of_bytes}
 use Rattle.relay_request.specs.Refusals.{faults_told}
 use Rattle.relay_request.specs.Turn.{world_with}
 use Rattle.relay_request.specs.declared.record.AttemptRecord.{AttemptRecord}
@@ -15,7 +17,11 @@ returns-in-Ok-get-clause-run g c = λ s p client ahead limit o run.
     rw c.in-Ok-get.ensures.no_fault (c.tell.ensures.run s p
     (world_with client ahead (g.K.Connector.fault_count c.args.connector.now))
     (rw (← c.in-Ok.ensures.ok) at o) (rw (← c.in-Ok.ensures.ok) at run) c.in-Some.ensures
-    (same_peer _ _ (sym c.in-Some-peer.ensures ∙ c.in-Some.ensures)) c.in-Ok-get.ensures.handed)
+    (same_peer _ _ (sym c.in-Some-peer.ensures ∙ c.in-Some.ensures)) c.in-Ok-get.ensures.handed
+    (rw c.carries_bytes-speaks.ensures
+    (speaks_of_bytes g.K.Byte.ByteLink.state g.K.Byte.ByteLink.start g.K.Message.MessageLink.state
+    g.K.Message.MessageLink.start g.K.Custom.MessageLink.state g.K.Custom.MessageLink.start _ _
+    c.in-Ok-get.ensures.over)))
 
 -- and so do its calls
 pub returns-in-Ok-get-clause-calls : goal.returns-in-Ok-get-clause-calls
@@ -58,8 +64,12 @@ returns-in-Err-get-clause-called g c = c.refused_link.ensures.called
 -- a link that was given is no refusal, and was the first of the offers
 pub returns-in-Ok-get-clause-asks : goal.returns-in-Ok-get-clause-asks
 returns-in-Ok-get-clause-asks g c =
+    let link_state = upstream_state g.K.Byte.ByteLink.state g.K.Message.MessageLink.state
+    g.K.Custom.MessageLink.state in
+    let link_start = upstream_start g.K.Byte.ByteLink.start g.K.Message.MessageLink.start
+    g.K.Custom.MessageLink.start in
     took_link _ _ _ _ _ _ _ _
-    (told_before_link g.K.Byte.ByteLink.state g.K.Byte.ByteLink.start c.args.tries
+    (told_before_link link_state link_start c.args.tries
     c.tell.result.phase c.tell.result.work (rw c.in-Ok.ensures.ok at c.tell.ensures.counts)
     c.tell.ensures.linked)
     c.tell.ensures.items c.in-Ok-get.ensures.calm c.in-Ok-get.ensures.first
@@ -85,6 +95,19 @@ returns-in_default-peer-clause-asks g c =
     (none_asked _ _ _ _ _ _ _
     (ap (λ (xs : List AttemptRecord). faults_told xs)
     (c.into_tries-in_default-peer.ensures ∙ c.in-Ok.ensures.ok)) refl refl refl)
+
+pub returns-in_default-clause-asks : goal.returns-in_default-clause-asks
+returns-in_default-clause-asks g c =
+    rw c.lacks_memory-in_default.ensures.phase
+    (none_asked _ _ _ _ _ _ _
+    (ap (λ (xs : List AttemptRecord). faults_told xs)
+    (c.into_tries.ensures ∙ c.in-Ok.ensures.ok)) refl refl refl)
+
+pub returns-in-Err-clause-asks : goal.returns-in-Err-clause-asks
+returns-in-Err-clause-asks g c =
+    rw c.lacks_memory.ensures.phase
+    (none_asked _ _ _ _ _ _ _
+    (ap (λ (xs : List AttemptRecord). faults_told xs) c.in-Err.ensures.err) refl refl refl)
 
 -- the end does not begin as the application is told of the link
 pub returns-in-Ok-get-clause-unended : goal.returns-in-Ok-get-clause-unended

@@ -1,6 +1,7 @@
 -- An error is answered, or the hook that comes next is called; where neither is due, the connector
 -- is asked.
 use Rattle.std.proofs.Common.{[], List, ap, refl, sym, subst, ◌∙◌}
+use Rattle.relay_connector.specs.Upstream.{upstream_state, upstream_start}
 use Rattle.relay_request.specs.Calls.{log_of, station_at}
 use Rattle.relay_request.specs.Passed.{Start}
 use Rattle.relay_request.specs.Phases.{RunSoFar}
@@ -34,15 +35,20 @@ returns-in-Some-clause-asks g c =
 
 -- a hook is called
 pub returns-then-is_calling-clause-run : goal.returns-then-is_calling-clause-run
-returns-then-is_calling-clause-run g c = λ s p client ahead limit o run.
+returns-then-is_calling-clause-run g c =
+    let link_state = upstream_state g.K.Byte.ByteLink.state g.K.Message.MessageLink.state
+    g.K.Custom.MessageLink.state in
+    let link_start = upstream_start g.K.Byte.ByteLink.start g.K.Message.MessageLink.start
+    g.K.Custom.MessageLink.start in
+    λ s p client ahead limit o run.
     let w = world_with client ahead (g.K.Connector.fault_count c.args.connector.now) in
     subst
-    (λ (t : Start). Advances g.K.Byte.ByteLink.state g.K.Byte.ByteLink.start t w
+    (λ (t : Start). Advances link_state link_start t w
     c.open.result.phase)
     (sym (still_open s (log_of c.open.new.calls) (c.open.ensures.unended o.unended)))
     (c.open.ensures.run s p w o
     (subst
-    (λ (t : Start). RunSoFar g.K.Byte.ByteLink.state g.K.Byte.ByteLink.start t p w []
+    (λ (t : Start). RunSoFar link_state link_start t p w []
     (phase.Connect c.args.context c.args.session c.args.tries))
     (still_open s (log_of c.args.calls.now) o.unended) run))
 
@@ -60,16 +66,21 @@ returns-then-is_calling-clause-asks g c =
 
 -- or a link is asked for
 pub returns-clause-run : goal.returns-clause-run
-returns-clause-run g c = λ s p client ahead limit o run.
+returns-clause-run g c =
+    let link_state = upstream_state g.K.Byte.ByteLink.state g.K.Message.MessageLink.state
+    g.K.Custom.MessageLink.state in
+    let link_start = upstream_start g.K.Byte.ByteLink.start g.K.Message.MessageLink.start
+    g.K.Custom.MessageLink.start in
+    λ s p client ahead limit o run.
     let w = world_with client ahead (g.K.Connector.fault_count c.args.connector.now) in
     let x = world_with client ahead (g.K.Connector.fault_count c.connect.new.connector) in
     subst
-    (λ (t : Start). Advances g.K.Byte.ByteLink.state g.K.Byte.ByteLink.start t x
+    (λ (t : Start). Advances link_state link_start t x
     c.connect.result.phase)
     (sym (still_open s (log_of c.connect.new.calls) (c.connect.ensures.unended o.unended)))
     (c.connect.ensures.run s p client ahead limit o
     (subst
-    (λ (t : Start). RunSoFar g.K.Byte.ByteLink.state g.K.Byte.ByteLink.start t p w []
+    (λ (t : Start). RunSoFar link_state link_start t p w []
     (phase.Connect c.args.context c.args.session c.args.tries))
     (still_open s (log_of c.args.calls.now) o.unended) run))
 
@@ -107,16 +118,21 @@ returns-clause-purger g c = λ o.
 
 -- a purge is done, and the connector is not asked
 pub returns-in-Some-purge-clause-run : goal.returns-in-Some-purge-clause-run
-returns-in-Some-purge-clause-run g c = λ s p client ahead limit o run.
+returns-in-Some-purge-clause-run g c =
+    let link_state = upstream_state g.K.Byte.ByteLink.state g.K.Message.MessageLink.state
+    g.K.Custom.MessageLink.state in
+    let link_start = upstream_start g.K.Byte.ByteLink.start g.K.Message.MessageLink.start
+    g.K.Custom.MessageLink.start in
+    λ s p client ahead limit o run.
     let w = world_with client ahead (g.K.Connector.fault_count c.args.connector.now) in
     subst
-    (λ (t : Start). Advances g.K.Byte.ByteLink.state g.K.Byte.ByteLink.start t w
+    (λ (t : Start). Advances link_state link_start t w
     c.purge-in-Some-purge.result.phase)
     (sym (still_open s (log_of c.purge-in-Some-purge.new.calls)
     (c.purge-in-Some-purge.ensures.unended o.unended)))
     (c.purge-in-Some-purge.ensures.run s p w o
     (subst
-    (λ (t : Start). RunSoFar g.K.Byte.ByteLink.state g.K.Byte.ByteLink.start t p w []
+    (λ (t : Start). RunSoFar link_state link_start t p w []
     (phase.Connect c.args.context c.args.session c.args.tries))
     (still_open s (log_of c.args.calls.now) o.unended) run))
 

@@ -23,7 +23,7 @@ returns-in-Ok-clause-run g c = λ s p front faults run sends at_sent.
     c.args.session
     (record { exchange = c.in-Ok.exchange; lease = c.args.lease; context = c.begin.new.ctx })
     (rw c.into_inner-client.ensures at c.in-Ok.ensures.calls) s p w c.args.link c.args.head run
-    sends at_sent (rw c.into_inner-client.ensures at c.in-Ok.ensures.client)
+    c.in-Ok.ensures.over sends at_sent (rw c.into_inner-client.ensures at c.in-Ok.ensures.client)
     c.in-Ok.ensures.at_first
     ((rw c.into_inner-client.ensures at c.in-Ok.ensures.begins) front))
 

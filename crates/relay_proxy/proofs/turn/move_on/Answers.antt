@@ -1,6 +1,10 @@
 -- A turn of a phase that does not relay. One that does not ask the connector leaves its count of
 -- faults as it was.
 use Rattle.std.proofs.Common.{[], ◌++◌, List, Some, refl, sym, ap, subst, ◌∙◌, inr, true≢false, append-nil, arith}
+use Rattle.relay_connector.specs.Connector.{Handed}
+use Rattle.relay_request.specs.Stock.{all_links}
+use Rattle.relay_proxy.proofs.StockLemmas.{links_asked}
+use Rattle.relay_connector.specs.Upstream.{upstream_state, upstream_start}
 use Rattle.relay_tasks.specs.declared.Fault.{Fault}
 use Rattle.relay_links.specs.Told.{Gains}
 use Rattle.relay_request.specs.Refusals.{faults_told}
@@ -14,7 +18,7 @@ use Rattle.relay_request.specs.Passed.{called_to}
 use Rattle.relay_request.specs.Turn.{world_of}
 use Rattle.relay_turns.proofs.BoundLemmas.{answer_bounds, head_turn_bounds, link_turn_bounds, send_turn_bounds, treat_turn_bounds}
 use Rattle.relay_turns.proofs.RefusalLemmas.{none_added, none_unmade, others_told}
-use Rattle.relay_turns.proofs.TakenLemmas.{takes_nothing, takes_more, took_more, one_out, no_offers}
+use Rattle.relay_turns.proofs.TakenLemmas.{takes_nothing, takes_more, took_more, no_offers}
 use Rattle.relay_turns.proofs.TurnLemmas.{broken_counts, broken_faults, broken_offers, broken_turn, head_turn, connect_turn, none_unended, open_step, prepare_turn, head_counts, still_counts, connect_counts, prepare_counts, prepare_faults, prepare_offers, unlinked_asked, unlinked_offers, unlinked_open, unlinked_turn, unlinked_turn_bounds, answer_offers}
 use Rattle.relay_request.proofs.CallLemmas.{none_called}
 use Rattle.relay_turns.proofs.CountLemmas.{client_both}
@@ -25,15 +29,19 @@ use Rattle.relay_proxy.proofs.turn.move_on.Goals as goal
 -- a turn that reads the head is a turn
 pub returns-in-ReadHead-clause-turn : goal.returns-in-ReadHead-clause-turn
 returns-in-ReadHead-clause-turn g c =
+    let link_state = upstream_state g.K.Byte.ByteLink.state g.K.Message.MessageLink.state
+    g.K.Custom.MessageLink.state in
+    let link_start = upstream_start g.K.Byte.ByteLink.start g.K.Message.MessageLink.start
+    g.K.Custom.MessageLink.start in
     rw (c.go_on.ensures.phase, sym c.replace.ensures.value ∙ c.in-ReadHead.is)
     (λ s p own most calls run.
-    head_turn g.K.Byte.ByteLink.state g.K.Byte.ByteLink.start
+    head_turn link_state link_start
     (called_to s (log_of c.args.calls.now)) (called_to s (log_of c.read_head.new.calls)) p
     (world_of g.D.ByteLink.state c.args.client.now
     (g.K.Connector.fault_count c.args.connector.now))
     (world_of g.D.ByteLink.state c.read_head.new.client
     (g.K.Connector.fault_count c.args.connector.now)) own c.read_head.result.phase run
-    (open_step g.K.Byte.ByteLink.state g.K.Byte.ByteLink.start s _ _ p _ _ _ _
+    (open_step link_state link_start s _ _ p _ _ _ _
     (none_unended _ calls) (c.read_head.ensures.unended (none_unended _ calls))
     (λ first. c.read_head.ensures.run s p (g.K.Connector.fault_count c.args.connector.now) calls
     first)))
@@ -68,8 +76,12 @@ returns-in-Again-clause-turn g c =
 -- a turn that asks the connector is a turn
 pub returns-in-Connect-clause-turn : goal.returns-in-Connect-clause-turn
 returns-in-Connect-clause-turn g c =
+    let link_state = upstream_state g.K.Byte.ByteLink.state g.K.Message.MessageLink.state
+    g.K.Custom.MessageLink.state in
+    let link_start = upstream_start g.K.Byte.ByteLink.start g.K.Message.MessageLink.start
+    g.K.Custom.MessageLink.start in
     rw (c.go_on-in-Connect.ensures.phase, sym c.replace.ensures.value ∙ c.in-Connect.is)
-    (λ s p own most calls run. connect_turn g.K.Byte.ByteLink.state g.K.Byte.ByteLink.start
+    (λ s p own most calls run. connect_turn link_state link_start
     (called_to s (log_of c.args.calls.now)) (called_to s (log_of c.reach.new.calls)) p
     (world_of g.D.ByteLink.state c.args.client.now
     (g.K.Connector.fault_count c.args.connector.now))
@@ -78,12 +90,19 @@ returns-in-Connect-clause-turn g c =
     (λ first. c.reach.ensures.run s p (g.D.ByteLink.state c.args.client.now.link)
     c.args.client.now.ahead most calls first))
 
--- the link that the connector gave was the first of those that were left
-pub returns-in-Connect-clause-stock : goal.returns-in-Connect-clause-stock
-returns-in-Connect-clause-stock g c =
-    rw (c.go_on-in-Connect.ensures.phase, sym c.replace.ensures.value ∙ c.in-Connect.is)
-    (one_out g.K.Byte.ByteLink.start _ _ _ _ _ _ c.reach.ensures.returned
-    c.reach.ensures.asks.takes)
+-- the link that the connector gave comes behind those that were there
+pub returns-in-Connect-clause-links : goal.returns-in-Connect-clause-links
+returns-in-Connect-clause-links g c =
+    let link_start = upstream_start g.K.Byte.ByteLink.start g.K.Message.MessageLink.start
+    g.K.Custom.MessageLink.start in
+    rw (
+      c.go_on-in-Connect.ensures.phase,
+      sym c.replace.ensures.value ∙ c.in-Connect.is,
+      c.reach.ensures.returned,
+    )
+    (ap (λ (links : List Handed).
+    all_links link_start (g.K.Connector.returned c.args.connector.now) links)
+    (sym (links_asked link_start _ c.reach.result.phase _ _ _ _ c.reach.ensures.asks)))
 
 -- the cause of a turn that reads the head
 pub returns-in-ReadHead-clause-cause : goal.returns-in-ReadHead-clause-cause
@@ -106,16 +125,24 @@ returns-in-Answer-clause-cause g c =
 -- a turn that reads the head hands no link back
 pub returns-in-ReadHead-clause-hands_on : goal.returns-in-ReadHead-clause-hands_on
 returns-in-ReadHead-clause-hands_on g c =
+    let link_state = upstream_state g.K.Byte.ByteLink.state g.K.Message.MessageLink.state
+    g.K.Custom.MessageLink.state in
+    let link_start = upstream_start g.K.Byte.ByteLink.start g.K.Message.MessageLink.start
+    g.K.Custom.MessageLink.start in
     rw (c.go_on.ensures.phase, c.go_on.ensures.step) (λ closing. absurd (true≢false
-    (sym closing ∙ unlinked_open g.K.Byte.ByteLink.state g.K.Byte.ByteLink.start
+    (sym closing ∙ unlinked_open link_state link_start
     c.read_head.result.phase c.read_head.ensures.unlinked)))
 
 -- nor does one that writes the answer
 pub returns-in-Answer-clause-hands_on : goal.returns-in-Answer-clause-hands_on
 returns-in-Answer-clause-hands_on g c =
+    let link_state = upstream_state g.K.Byte.ByteLink.state g.K.Message.MessageLink.state
+    g.K.Custom.MessageLink.state in
+    let link_start = upstream_start g.K.Byte.ByteLink.start g.K.Message.MessageLink.start
+    g.K.Custom.MessageLink.start in
     rw (c.go_on-in-Answer.ensures.phase, c.go_on-in-Answer.ensures.step)
     (λ closing. absurd (true≢false
-    (sym closing ∙ unlinked_open g.K.Byte.ByteLink.state g.K.Byte.ByteLink.start
+    (sym closing ∙ unlinked_open link_state link_start
     c.write_answer.result.phase c.write_answer.ensures.unlinked)))
 
 -- one that asks the connector moved or ended
@@ -191,41 +218,51 @@ returns-in-Again-clause-carries g c =
 -- a turn that reads the head takes none of the offers
 pub returns-in-ReadHead-clause-offers : goal.returns-in-ReadHead-clause-offers
 returns-in-ReadHead-clause-offers g c =
+    let link_start = upstream_start g.K.Byte.ByteLink.start g.K.Message.MessageLink.start
+    g.K.Custom.MessageLink.start in
     rw (c.go_on.ensures.phase, sym c.replace.ensures.value ∙ c.in-ReadHead.is)
-    (takes_nothing _ _ _ (no_offers g.K.Byte.ByteLink.start c.read_head.result.phase
+    (takes_nothing _ _ _ (no_offers link_start c.read_head.result.phase
     c.read_head.ensures.no_items
     (none_unmade c.read_head.result.phase c.read_head.ensures.no_attempts)) refl)
 
 -- what was taken before an answer stays so
 pub returns-in-Answer-clause-carries : goal.returns-in-Answer-clause-carries
 returns-in-Answer-clause-carries g c =
+    let link_start = upstream_start g.K.Byte.ByteLink.start g.K.Message.MessageLink.start
+    g.K.Custom.MessageLink.start in
     rw (c.go_on-in-Answer.ensures.phase, sym c.replace.ensures.value ∙ c.in-Answer.is) (λ live.
-    append-nil _ ∙ answer_offers g.K.Byte.ByteLink.start [] c.in-Answer.session c.in-Answer.owed
+    append-nil _ ∙ answer_offers link_start [] c.in-Answer.session c.in-Answer.owed
     c.in-Answer.attempts c.write_answer.result.phase
     c.write_answer.ensures.no_items c.write_answer.ensures.attempts)
 
 -- a turn that asks the connector takes what the next phase took
 pub returns-in-Connect-clause-offers : goal.returns-in-Connect-clause-offers
 returns-in-Connect-clause-offers g c =
+    let link_start = upstream_start g.K.Byte.ByteLink.start g.K.Message.MessageLink.start
+    g.K.Custom.MessageLink.start in
     rw (c.go_on-in-Connect.ensures.phase, sym c.replace.ensures.value ∙ c.in-Connect.is)
-    (takes_more g.K.Byte.ByteLink.start _ c.reach.result.phase _ _ _ _ c.reach.ensures.asks)
+    (takes_more link_start _ c.reach.result.phase _ _ _ _ c.reach.ensures.asks)
 
 -- behind what was taken before
 pub returns-in-Connect-clause-carries : goal.returns-in-Connect-clause-carries
 returns-in-Connect-clause-carries g c =
+    let link_start = upstream_start g.K.Byte.ByteLink.start g.K.Message.MessageLink.start
+    g.K.Custom.MessageLink.start in
     rw (c.go_on-in-Connect.ensures.phase, sym c.replace.ensures.value ∙ c.in-Connect.is) (λ live.
-    took_more g.K.Byte.ByteLink.start _ c.reach.result.phase _ _ _ _ c.reach.ensures.asks)
+    took_more link_start _ c.reach.result.phase _ _ _ _ c.reach.ensures.asks)
 
 -- one that was to be closed, or had ended, asks no link
 pub returns-in-Close-clause-uses : goal.returns-in-Close-clause-uses
 returns-in-Close-clause-uses g c =
+    let link_state = upstream_state g.K.Byte.ByteLink.state g.K.Message.MessageLink.state
+    g.K.Custom.MessageLink.state in
     rw (
       c.go_on-in-Close.ensures.phase,
       c.go_on-in-Close.ensures.work,
       sym c.replace.ensures.value ∙ c.in-Close.is,
     )
     (λ s p own run. (
-      g.K.Byte.ByteLink.state c.in-Close.link,
+      link_state c.in-Close.link,
       refl,
       inr (refl, record { client_same = refl; upstream_same = refl }),
     ))
@@ -233,13 +270,15 @@ returns-in-Close-clause-uses g c =
 -- nor does one whose link is to go back
 pub returns-in-Fail-clause-uses : goal.returns-in-Fail-clause-uses
 returns-in-Fail-clause-uses g c =
+    let link_state = upstream_state g.K.Byte.ByteLink.state g.K.Message.MessageLink.state
+    g.K.Custom.MessageLink.state in
     rw (
       c.go_on-in-Fail.ensures.phase,
       c.go_on-in-Fail.ensures.work,
       sym c.replace.ensures.value ∙ c.in-Fail.is,
     )
     (λ s p own run. (
-      g.K.Byte.ByteLink.state c.in-Fail.link,
+      link_state c.in-Fail.link,
       refl,
       inr (refl, record { client_same = refl; upstream_same = refl }),
     ))
@@ -247,13 +286,15 @@ returns-in-Fail-clause-uses g c =
 -- the same where another attempt follows then
 pub returns-in-Again-clause-uses : goal.returns-in-Again-clause-uses
 returns-in-Again-clause-uses g c =
+    let link_state = upstream_state g.K.Byte.ByteLink.state g.K.Message.MessageLink.state
+    g.K.Custom.MessageLink.state in
     rw (
       c.go_on-in-Again.ensures.phase,
       c.go_on-in-Again.ensures.work,
       sym c.replace.ensures.value ∙ c.in-Again.is,
     )
     (λ s p own run. (
-      g.K.Byte.ByteLink.state c.in-Again.link,
+      link_state c.in-Again.link,
       refl,
       inr (refl, record { client_same = refl; upstream_same = refl }),
     ))
@@ -261,92 +302,124 @@ returns-in-Again-clause-uses g c =
 -- a turn that reads the head counts the client's uses
 pub returns-in-ReadHead-clause-counts : goal.returns-in-ReadHead-clause-counts
 returns-in-ReadHead-clause-counts g c =
+    let link_state = upstream_state g.K.Byte.ByteLink.state g.K.Message.MessageLink.state
+    g.K.Custom.MessageLink.state in
+    let link_start = upstream_start g.K.Byte.ByteLink.start g.K.Message.MessageLink.start
+    g.K.Custom.MessageLink.start in
     rw (c.go_on.ensures.phase, c.go_on.ensures.work, sym c.replace.ensures.value ∙ c.in-ReadHead.is)
-    (λ s p own n run had. head_counts g.K.Byte.ByteLink.state g.K.Byte.ByteLink.start n
+    (λ s p own n run had. head_counts link_state link_start n
     c.read_head.result.work.used _ _ own c.read_head.result.phase c.read_head.ensures.uses
     c.read_head.ensures.unlinked had)
 
 -- and so does one that writes the answer
 pub returns-in-Answer-clause-counts : goal.returns-in-Answer-clause-counts
 returns-in-Answer-clause-counts g c =
+    let link_state = upstream_state g.K.Byte.ByteLink.state g.K.Message.MessageLink.state
+    g.K.Custom.MessageLink.state in
+    let link_start = upstream_start g.K.Byte.ByteLink.start g.K.Message.MessageLink.start
+    g.K.Custom.MessageLink.start in
     rw (
       c.go_on-in-Answer.ensures.phase,
       c.go_on-in-Answer.ensures.work,
       sym c.replace.ensures.value ∙ c.in-Answer.is,
     )
-    (λ s p own n run had. head_counts g.K.Byte.ByteLink.state g.K.Byte.ByteLink.start n
+    (λ s p own n run had. head_counts link_state link_start n
     c.write_answer.result.work.used _ _ own c.write_answer.result.phase
     c.write_answer.ensures.uses c.write_answer.ensures.unlinked had)
 
 -- one that asks the connector counts none
 pub returns-in-Connect-clause-counts : goal.returns-in-Connect-clause-counts
 returns-in-Connect-clause-counts g c =
+    let link_state = upstream_state g.K.Byte.ByteLink.state g.K.Message.MessageLink.state
+    g.K.Custom.MessageLink.state in
+    let link_start = upstream_start g.K.Byte.ByteLink.start g.K.Message.MessageLink.start
+    g.K.Custom.MessageLink.start in
     rw (
       c.go_on-in-Connect.ensures.phase,
       c.go_on-in-Connect.ensures.work,
       sym c.replace.ensures.value ∙ c.in-Connect.is,
     )
-    (λ s p own n run had. connect_counts g.K.Byte.ByteLink.state g.K.Byte.ByteLink.start s p own
+    (λ s p own n run had. connect_counts link_state link_start s p own
     _ _ _ _ n c.reach.result.work.used _ c.reach.result.phase run had c.reach.ensures.unused
     c.reach.ensures.fresh)
 
 -- nor does one of a request that is to be closed
 pub returns-in-Close-clause-counts : goal.returns-in-Close-clause-counts
 returns-in-Close-clause-counts g c =
+    let link_state = upstream_state g.K.Byte.ByteLink.state g.K.Message.MessageLink.state
+    g.K.Custom.MessageLink.state in
+    let link_start = upstream_start g.K.Byte.ByteLink.start g.K.Message.MessageLink.start
+    g.K.Custom.MessageLink.start in
     rw (
       c.go_on-in-Close.ensures.phase,
       c.go_on-in-Close.ensures.work,
       sym c.replace.ensures.value ∙ c.in-Close.is,
     )
-    (λ s p own n run had. still_counts g.K.Byte.ByteLink.state g.K.Byte.ByteLink.start n 0 _ own _
+    (λ s p own n run had. still_counts link_state link_start n 0 _ own _
     refl had)
 
 -- or whose link is to go back
 pub returns-in-Fail-clause-counts : goal.returns-in-Fail-clause-counts
 returns-in-Fail-clause-counts g c =
+    let link_state = upstream_state g.K.Byte.ByteLink.state g.K.Message.MessageLink.state
+    g.K.Custom.MessageLink.state in
+    let link_start = upstream_start g.K.Byte.ByteLink.start g.K.Message.MessageLink.start
+    g.K.Custom.MessageLink.start in
     rw (
       c.go_on-in-Fail.ensures.phase,
       c.go_on-in-Fail.ensures.work,
       sym c.replace.ensures.value ∙ c.in-Fail.is,
     )
-    (λ s p own n run had. still_counts g.K.Byte.ByteLink.state g.K.Byte.ByteLink.start n 0 _ own _
+    (λ s p own n run had. still_counts link_state link_start n 0 _ own _
     refl had)
 
 -- the same where another attempt follows then
 pub returns-in-Again-clause-counts : goal.returns-in-Again-clause-counts
 returns-in-Again-clause-counts g c =
+    let link_state = upstream_state g.K.Byte.ByteLink.state g.K.Message.MessageLink.state
+    g.K.Custom.MessageLink.state in
+    let link_start = upstream_start g.K.Byte.ByteLink.start g.K.Message.MessageLink.start
+    g.K.Custom.MessageLink.start in
     rw (
       c.go_on-in-Again.ensures.phase,
       c.go_on-in-Again.ensures.work,
       sym c.replace.ensures.value ∙ c.in-Again.is,
     )
-    (λ s p own n run had. still_counts g.K.Byte.ByteLink.state g.K.Byte.ByteLink.start n 0 _ own _
+    (λ s p own n run had. still_counts link_state link_start n 0 _ own _
     refl had)
 
 -- or has ended
 pub returns-in-Ended-clause-counts : goal.returns-in-Ended-clause-counts
 returns-in-Ended-clause-counts g c =
+    let link_state = upstream_state g.K.Byte.ByteLink.state g.K.Message.MessageLink.state
+    g.K.Custom.MessageLink.state in
+    let link_start = upstream_start g.K.Byte.ByteLink.start g.K.Message.MessageLink.start
+    g.K.Custom.MessageLink.start in
     rw (
       c.go_on-in-Ended.ensures.phase,
       c.go_on-in-Ended.ensures.work,
       sym c.replace.ensures.value ∙ c.in-Ended.is,
     )
-    (λ s p own n run had. still_counts g.K.Byte.ByteLink.state g.K.Byte.ByteLink.start n 0 _ own _
+    (λ s p own n run had. still_counts link_state link_start n 0 _ own _
     refl had)
 
 -- a turn that reads the head counts no more than one end
 pub returns-in-ReadHead-clause-bounds : goal.returns-in-ReadHead-clause-bounds
 returns-in-ReadHead-clause-bounds g c =
+    let link_state = upstream_state g.K.Byte.ByteLink.state g.K.Message.MessageLink.state
+    g.K.Custom.MessageLink.state in
+    let link_start = upstream_start g.K.Byte.ByteLink.start g.K.Message.MessageLink.start
+    g.K.Custom.MessageLink.start in
     rw (c.go_on.ensures.phase, c.go_on.ensures.work, sym c.replace.ensures.value ∙ c.in-ReadHead.is)
     (λ s p own tasks ends most calls run had.
-    head_turn_bounds g.K.Byte.ByteLink.state g.K.Byte.ByteLink.start
+    head_turn_bounds link_state link_start
     (called_to s (log_of c.args.calls.now)) (called_to s (log_of c.read_head.new.calls)) p
     (world_of g.D.ByteLink.state c.args.client.now
     (g.K.Connector.fault_count c.args.connector.now))
     (world_of g.D.ByteLink.state c.read_head.new.client
     (g.K.Connector.fault_count c.args.connector.now)) own c.read_head.result.phase
     c.read_head.result.work tasks ends run
-    (open_step g.K.Byte.ByteLink.state g.K.Byte.ByteLink.start s _ _ p _ _ _ _
+    (open_step link_state link_start s _ _ p _ _ _ _
     (none_unended _ calls) (c.read_head.ensures.unended (none_unended _ calls))
     (λ first. c.read_head.ensures.run s p (g.K.Connector.fault_count c.args.connector.now) calls
     first))
@@ -355,13 +428,17 @@ returns-in-ReadHead-clause-bounds g c =
 -- one that asks the connector counts one head or one end
 pub returns-in-Connect-clause-bounds : goal.returns-in-Connect-clause-bounds
 returns-in-Connect-clause-bounds g c =
+    let link_state = upstream_state g.K.Byte.ByteLink.state g.K.Message.MessageLink.state
+    g.K.Custom.MessageLink.state in
+    let link_start = upstream_start g.K.Byte.ByteLink.start g.K.Message.MessageLink.start
+    g.K.Custom.MessageLink.start in
     rw (
       c.go_on-in-Connect.ensures.phase,
       c.go_on-in-Connect.ensures.work,
       sym c.replace.ensures.value ∙ c.in-Connect.is,
     )
-    (λ s p own tasks ends most calls run had. link_turn_bounds g.K.Byte.ByteLink.state
-    g.K.Byte.ByteLink.start (called_to s (log_of c.args.calls.now))
+    (λ s p own tasks ends most calls run had. link_turn_bounds link_state
+    link_start (called_to s (log_of c.args.calls.now))
     (called_to s (log_of c.reach.new.calls)) p
     (world_of g.D.ByteLink.state c.args.client.now
     (g.K.Connector.fault_count c.args.connector.now))
@@ -374,6 +451,10 @@ returns-in-Connect-clause-bounds g c =
 -- one that writes the answer counts one end at most
 pub returns-in-Answer-clause-bounds : goal.returns-in-Answer-clause-bounds
 returns-in-Answer-clause-bounds g c =
+    let link_state = upstream_state g.K.Byte.ByteLink.state g.K.Message.MessageLink.state
+    g.K.Custom.MessageLink.state in
+    let link_start = upstream_start g.K.Byte.ByteLink.start g.K.Message.MessageLink.start
+    g.K.Custom.MessageLink.start in
     rw (
       c.write_answer.ensures.log,
       c.go_on-in-Answer.ensures.phase,
@@ -381,7 +462,7 @@ returns-in-Answer-clause-bounds g c =
       sym c.replace.ensures.value ∙ c.in-Answer.is,
     )
     (λ s p own tasks ends most calls run had.
-    answer_bounds g.K.Byte.ByteLink.state g.K.Byte.ByteLink.start
+    answer_bounds link_state link_start
     (called_to s (log_of c.args.calls.now)) _ _ _ own
     c.write_answer.result.phase c.write_answer.result.work tasks ends
     c.write_answer.ensures.gives c.write_answer.ensures.counts _ c.write_answer.ensures.attempts
@@ -425,8 +506,12 @@ returns-in-Ended-clause-bounds g c =
 -- a turn that has the error of a request without a link answered is a turn
 pub returns-in-Unlinked-clause-turn : goal.returns-in-Unlinked-clause-turn
 returns-in-Unlinked-clause-turn g c =
+    let link_state = upstream_state g.K.Byte.ByteLink.state g.K.Message.MessageLink.state
+    g.K.Custom.MessageLink.state in
+    let link_start = upstream_start g.K.Byte.ByteLink.start g.K.Message.MessageLink.start
+    g.K.Custom.MessageLink.start in
     rw (c.go_on-in-Unlinked.ensures.phase, sym c.replace.ensures.value ∙ c.in-Unlinked.is)
-    (λ s p own most calls run. unlinked_turn g.K.Byte.ByteLink.state g.K.Byte.ByteLink.start
+    (λ s p own most calls run. unlinked_turn link_state link_start
     (called_to s (log_of c.args.calls.now)) (called_to s (log_of c.answer_unlinked.new.calls)) p
     (world_of g.D.ByteLink.state c.args.client.now
     (g.K.Connector.fault_count c.args.connector.now))
@@ -459,27 +544,35 @@ returns-in-Unlinked-clause-hands_on g c =
 -- it counts no use
 pub returns-in-Unlinked-clause-counts : goal.returns-in-Unlinked-clause-counts
 returns-in-Unlinked-clause-counts g c =
+    let link_state = upstream_state g.K.Byte.ByteLink.state g.K.Message.MessageLink.state
+    g.K.Custom.MessageLink.state in
+    let link_start = upstream_start g.K.Byte.ByteLink.start g.K.Message.MessageLink.start
+    g.K.Custom.MessageLink.start in
     rw (
       c.go_on-in-Unlinked.ensures.phase,
       c.go_on-in-Unlinked.ensures.work,
       sym c.replace.ensures.value ∙ c.in-Unlinked.is,
     )
-    (λ s p own n run had. still_counts g.K.Byte.ByteLink.state g.K.Byte.ByteLink.start n
+    (λ s p own n run had. still_counts link_state link_start n
     c.answer_unlinked.result.work.used _ own c.answer_unlinked.result.phase
     c.answer_unlinked.ensures.unused
-    (unlinked_asked g.K.Byte.ByteLink.state g.K.Byte.ByteLink.start n own
+    (unlinked_asked link_state link_start n own
     c.answer_unlinked.result.phase c.answer_unlinked.ensures.unlinked had))
 
 -- but one end at most
 pub returns-in-Unlinked-clause-bounds : goal.returns-in-Unlinked-clause-bounds
 returns-in-Unlinked-clause-bounds g c =
+    let link_state = upstream_state g.K.Byte.ByteLink.state g.K.Message.MessageLink.state
+    g.K.Custom.MessageLink.state in
+    let link_start = upstream_start g.K.Byte.ByteLink.start g.K.Message.MessageLink.start
+    g.K.Custom.MessageLink.start in
     rw (
       c.go_on-in-Unlinked.ensures.phase,
       c.go_on-in-Unlinked.ensures.work,
       sym c.replace.ensures.value ∙ c.in-Unlinked.is,
     )
-    (λ s p own tasks ends most calls run had. unlinked_turn_bounds g.K.Byte.ByteLink.state
-    g.K.Byte.ByteLink.start (called_to s (log_of c.args.calls.now))
+    (λ s p own tasks ends most calls run had. unlinked_turn_bounds link_state
+    link_start (called_to s (log_of c.args.calls.now))
     (called_to s (log_of c.answer_unlinked.new.calls)) p
     (world_of g.D.ByteLink.state c.args.client.now
     (g.K.Connector.fault_count c.args.connector.now))
@@ -494,8 +587,10 @@ returns-in-Unlinked-clause-bounds g c =
 -- what was taken before it stays so
 pub returns-in-Unlinked-clause-carries : goal.returns-in-Unlinked-clause-carries
 returns-in-Unlinked-clause-carries g c =
+    let link_start = upstream_start g.K.Byte.ByteLink.start g.K.Message.MessageLink.start
+    g.K.Custom.MessageLink.start in
     rw (c.go_on-in-Unlinked.ensures.phase, sym c.replace.ensures.value ∙ c.in-Unlinked.is) (λ live.
-    append-nil _ ∙ unlinked_offers g.K.Byte.ByteLink.start c.in-Unlinked.context
+    append-nil _ ∙ unlinked_offers link_start c.in-Unlinked.context
     c.in-Unlinked.session c.in-Unlinked.attempts c.in-Unlinked.error c.answer_unlinked.result.phase
     c.answer_unlinked.ensures.no_items c.answer_unlinked.ensures.attempts)
 
@@ -509,14 +604,18 @@ returns-in-Unlinked-clause-tells g c =
 -- a turn that makes the head of an attempt is a turn
 pub returns-in-Prepare-clause-turn : goal.returns-in-Prepare-clause-turn
 returns-in-Prepare-clause-turn g c =
+    let link_state = upstream_state g.K.Byte.ByteLink.state g.K.Message.MessageLink.state
+    g.K.Custom.MessageLink.state in
+    let link_start = upstream_start g.K.Byte.ByteLink.start g.K.Message.MessageLink.start
+    g.K.Custom.MessageLink.start in
     rw (c.go_on-in-Prepare.ensures.phase, sym c.replace.ensures.value ∙ c.in-Prepare.is)
-    (λ s p own most calls run. prepare_turn g.K.Byte.ByteLink.state g.K.Byte.ByteLink.start
+    (λ s p own most calls run. prepare_turn link_state link_start
     (called_to s (log_of c.args.calls.now)) (called_to s (log_of c.prepare.new.calls)) p
     (world_of g.D.ByteLink.state c.args.client.now
     (g.K.Connector.fault_count c.args.connector.now))
     (world_of g.D.ByteLink.state c.args.client.now
     (g.K.Connector.fault_count c.args.connector.now)) own _ _ _ _ c.prepare.result.phase run
-    (open_step g.K.Byte.ByteLink.state g.K.Byte.ByteLink.start s _ _ p _ _ _ _
+    (open_step link_state link_start s _ _ p _ _ _ _
     calls.0.unended (c.prepare.ensures.unended calls.0.unended)
     (λ first. c.prepare.ensures.run s p c.args.client.now
     (g.K.Connector.fault_count c.args.connector.now) calls first)))
@@ -538,6 +637,8 @@ returns-in-Prepare-clause-cause g c =
 -- it asks no link
 pub returns-in-Prepare-clause-uses : goal.returns-in-Prepare-clause-uses
 returns-in-Prepare-clause-uses g c =
+    let link_state = upstream_state g.K.Byte.ByteLink.state g.K.Message.MessageLink.state
+    g.K.Custom.MessageLink.state in
     rw (
       c.go_on-in-Prepare.ensures.phase,
       c.go_on-in-Prepare.ensures.work,
@@ -545,7 +646,7 @@ returns-in-Prepare-clause-uses g c =
       c.prepare.ensures.unused,
     )
     (λ s p own run. (
-      g.K.Byte.ByteLink.state c.in-Prepare.link,
+      link_state c.in-Prepare.link,
       c.prepare.ensures.held,
       inr (refl, record { client_same = refl; upstream_same = refl }),
     ))
@@ -553,32 +654,40 @@ returns-in-Prepare-clause-uses g c =
 -- and counts no use
 pub returns-in-Prepare-clause-counts : goal.returns-in-Prepare-clause-counts
 returns-in-Prepare-clause-counts g c =
+    let link_state = upstream_state g.K.Byte.ByteLink.state g.K.Message.MessageLink.state
+    g.K.Custom.MessageLink.state in
+    let link_start = upstream_start g.K.Byte.ByteLink.start g.K.Message.MessageLink.start
+    g.K.Custom.MessageLink.start in
     rw (
       c.go_on-in-Prepare.ensures.phase,
       c.go_on-in-Prepare.ensures.work,
       sym c.replace.ensures.value ∙ c.in-Prepare.is,
     )
-    (λ s p own n run had. prepare_counts g.K.Byte.ByteLink.state g.K.Byte.ByteLink.start s p own
+    (λ s p own n run had. prepare_counts link_state link_start s p own
     _ _ _ _ _ n c.prepare.result.work.used _ c.prepare.result.phase run had
     c.prepare.ensures.unused c.prepare.ensures.asked)
 
 -- but one head or one end
 pub returns-in-Prepare-clause-bounds : goal.returns-in-Prepare-clause-bounds
 returns-in-Prepare-clause-bounds g c =
+    let link_state = upstream_state g.K.Byte.ByteLink.state g.K.Message.MessageLink.state
+    g.K.Custom.MessageLink.state in
+    let link_start = upstream_start g.K.Byte.ByteLink.start g.K.Message.MessageLink.start
+    g.K.Custom.MessageLink.start in
     rw (
       c.go_on-in-Prepare.ensures.phase,
       c.go_on-in-Prepare.ensures.work,
       sym c.replace.ensures.value ∙ c.in-Prepare.is,
     )
-    (λ s p own tasks ends most calls run had. send_turn_bounds g.K.Byte.ByteLink.state
-    g.K.Byte.ByteLink.start (called_to s (log_of c.args.calls.now))
+    (λ s p own tasks ends most calls run had. send_turn_bounds link_state
+    link_start (called_to s (log_of c.args.calls.now))
     (called_to s (log_of c.prepare.new.calls)) p
     (world_of g.D.ByteLink.state c.args.client.now
     (g.K.Connector.fault_count c.args.connector.now))
     (world_of g.D.ByteLink.state c.args.client.now
     (g.K.Connector.fault_count c.args.connector.now)) own _ _ _ _ c.prepare.result.phase
     c.prepare.result.work tasks ends run
-    (open_step g.K.Byte.ByteLink.state g.K.Byte.ByteLink.start s _ _ p _ _ _ _
+    (open_step link_state link_start s _ _ p _ _ _ _
     calls.0.unended (c.prepare.ensures.unended calls.0.unended)
     (λ first. c.prepare.ensures.run s p c.args.client.now
     (g.K.Connector.fault_count c.args.connector.now) calls first)) c.prepare.ensures.counts had)
@@ -586,24 +695,36 @@ returns-in-Prepare-clause-bounds g c =
 -- it holds the link that it held
 pub returns-in-Prepare-clause-carries : goal.returns-in-Prepare-clause-carries
 returns-in-Prepare-clause-carries g c =
+    let link_state = upstream_state g.K.Byte.ByteLink.state g.K.Message.MessageLink.state
+    g.K.Custom.MessageLink.state in
+    let link_start = upstream_start g.K.Byte.ByteLink.start g.K.Message.MessageLink.start
+    g.K.Custom.MessageLink.start in
     rw (c.go_on-in-Prepare.ensures.phase, sym c.replace.ensures.value ∙ c.in-Prepare.is) (λ live.
-    append-nil _ ∙ prepare_offers g.K.Byte.ByteLink.state g.K.Byte.ByteLink.start
+    append-nil _ ∙ prepare_offers link_state link_start
     c.in-Prepare.context c.in-Prepare.session c.in-Prepare.link c.in-Prepare.lease
     c.prepare.result.phase c.prepare.ensures.tries c.prepare.ensures.items)
 
 -- and the attempts before it
 pub returns-in-Prepare-clause-tells : goal.returns-in-Prepare-clause-tells
 returns-in-Prepare-clause-tells g c =
+    let link_state = upstream_state g.K.Byte.ByteLink.state g.K.Message.MessageLink.state
+    g.K.Custom.MessageLink.state in
+    let link_start = upstream_start g.K.Byte.ByteLink.start g.K.Message.MessageLink.start
+    g.K.Custom.MessageLink.start in
     rw (c.go_on-in-Prepare.ensures.phase, sym c.replace.ensures.value ∙ c.in-Prepare.is) (λ live.
-    append-nil _ ∙ prepare_faults g.K.Byte.ByteLink.state g.K.Byte.ByteLink.start
+    append-nil _ ∙ prepare_faults link_state link_start
     c.in-Prepare.context c.in-Prepare.session c.in-Prepare.link c.in-Prepare.lease
     c.prepare.result.phase c.prepare.ensures.tries)
 
 -- a turn that has the error of an attempt treated is a turn
 pub returns-in-Broken-clause-turn : goal.returns-in-Broken-clause-turn
 returns-in-Broken-clause-turn g c =
+    let link_state = upstream_state g.K.Byte.ByteLink.state g.K.Message.MessageLink.state
+    g.K.Custom.MessageLink.state in
+    let link_start = upstream_start g.K.Byte.ByteLink.start g.K.Message.MessageLink.start
+    g.K.Custom.MessageLink.start in
     rw (c.go_on-in-Broken.ensures.phase, sym c.replace.ensures.value ∙ c.in-Broken.is)
-    (λ s p own most calls run. broken_turn g.K.Byte.ByteLink.state g.K.Byte.ByteLink.start
+    (λ s p own most calls run. broken_turn link_state link_start
     (called_to s (log_of c.args.calls.now)) (called_to s (log_of c.fail.new.calls)) p
     (world_of g.D.ByteLink.state c.args.client.now
     (g.K.Connector.fault_count c.args.connector.now))
@@ -626,40 +747,50 @@ returns-in-Broken-clause-cause g c =
 -- it asks the client's link, or none
 pub returns-in-Broken-clause-uses : goal.returns-in-Broken-clause-uses
 returns-in-Broken-clause-uses g c =
+    let link_state = upstream_state g.K.Byte.ByteLink.state g.K.Message.MessageLink.state
+    g.K.Custom.MessageLink.state in
     rw (
       c.go_on-in-Broken.ensures.phase,
       c.go_on-in-Broken.ensures.work,
       sym c.replace.ensures.value ∙ c.in-Broken.is,
     )
     (λ s p own run. (
-      g.K.Byte.ByteLink.state c.in-Broken.link,
+      link_state c.in-Broken.link,
       c.fail.ensures.held,
-      client_both c.fail.result.work.used _ _ (g.K.Byte.ByteLink.state c.in-Broken.link)
+      client_both c.fail.result.work.used _ _ (link_state c.in-Broken.link)
           c.fail.ensures.uses,
     ))
 
 -- and counts that use
 pub returns-in-Broken-clause-counts : goal.returns-in-Broken-clause-counts
 returns-in-Broken-clause-counts g c =
+    let link_state = upstream_state g.K.Byte.ByteLink.state g.K.Message.MessageLink.state
+    g.K.Custom.MessageLink.state in
+    let link_start = upstream_start g.K.Byte.ByteLink.start g.K.Message.MessageLink.start
+    g.K.Custom.MessageLink.start in
     rw (
       c.go_on-in-Broken.ensures.phase,
       c.go_on-in-Broken.ensures.work,
       sym c.replace.ensures.value ∙ c.in-Broken.is,
     )
-    (λ s p own n run had. broken_counts g.K.Byte.ByteLink.state g.K.Byte.ByteLink.start s p own
+    (λ s p own n run had. broken_counts link_state link_start s p own
     _ _ _ _ _ _ _ n c.fail.result.work.used _ _ c.fail.result.phase run had
     c.fail.ensures.uses c.fail.ensures.asked)
 
 -- but one end at most
 pub returns-in-Broken-clause-bounds : goal.returns-in-Broken-clause-bounds
 returns-in-Broken-clause-bounds g c =
+    let link_state = upstream_state g.K.Byte.ByteLink.state g.K.Message.MessageLink.state
+    g.K.Custom.MessageLink.state in
+    let link_start = upstream_start g.K.Byte.ByteLink.start g.K.Message.MessageLink.start
+    g.K.Custom.MessageLink.start in
     rw (
       c.go_on-in-Broken.ensures.phase,
       c.go_on-in-Broken.ensures.work,
       sym c.replace.ensures.value ∙ c.in-Broken.is,
     )
-    (λ s p own tasks ends most calls run had. treat_turn_bounds g.K.Byte.ByteLink.state
-    g.K.Byte.ByteLink.start s (log_of c.args.calls.now) (log_of c.fail.new.calls) _ _
+    (λ s p own tasks ends most calls run had. treat_turn_bounds link_state
+    link_start s (log_of c.args.calls.now) (log_of c.fail.new.calls) _ _
     c.args.client.now.ahead c.fail.new.client.ahead own
     c.in-Broken.context c.in-Broken.session c.in-Broken.link c.in-Broken.lease c.in-Broken.keep
     c.in-Broken.error c.fail.result.phase c.fail.result.work tasks ends c.fail.ensures.gives
@@ -668,16 +799,24 @@ returns-in-Broken-clause-bounds g c =
 -- it holds the link that it held
 pub returns-in-Broken-clause-carries : goal.returns-in-Broken-clause-carries
 returns-in-Broken-clause-carries g c =
+    let link_state = upstream_state g.K.Byte.ByteLink.state g.K.Message.MessageLink.state
+    g.K.Custom.MessageLink.state in
+    let link_start = upstream_start g.K.Byte.ByteLink.start g.K.Message.MessageLink.start
+    g.K.Custom.MessageLink.start in
     rw (c.go_on-in-Broken.ensures.phase, sym c.replace.ensures.value ∙ c.in-Broken.is) (λ live.
-    append-nil _ ∙ broken_offers g.K.Byte.ByteLink.state g.K.Byte.ByteLink.start
+    append-nil _ ∙ broken_offers link_state link_start
     c.in-Broken.context c.in-Broken.session c.in-Broken.link c.in-Broken.lease c.in-Broken.keep
     c.in-Broken.error c.fail.result.phase c.fail.ensures.tries c.fail.ensures.items)
 
 -- and the attempts before it
 pub returns-in-Broken-clause-tells : goal.returns-in-Broken-clause-tells
 returns-in-Broken-clause-tells g c =
+    let link_state = upstream_state g.K.Byte.ByteLink.state g.K.Message.MessageLink.state
+    g.K.Custom.MessageLink.state in
+    let link_start = upstream_start g.K.Byte.ByteLink.start g.K.Message.MessageLink.start
+    g.K.Custom.MessageLink.start in
     rw (c.go_on-in-Broken.ensures.phase, sym c.replace.ensures.value ∙ c.in-Broken.is) (λ live.
-    append-nil _ ∙ broken_faults g.K.Byte.ByteLink.state g.K.Byte.ByteLink.start
+    append-nil _ ∙ broken_faults link_state link_start
     c.in-Broken.context c.in-Broken.session c.in-Broken.link c.in-Broken.lease c.in-Broken.keep
     c.in-Broken.error c.fail.result.phase c.fail.ensures.tries)
 

@@ -1,7 +1,8 @@
 -- A turn of a phase that relays asks no connector, and is a turn of the request.
 use Rattle.std.specs.Global.{Box}
 use Rattle.std.proofs.Common.{◌≡◌, ◌+◌, List, [], Some, refl, sym, subst, ◌∙◌, inl, inr, true≢false}
-use Rattle.relay_links.specs.declared.Returned.{Returned}
+use Rattle.relay_connector.specs.Upstream.{upstream_state, upstream_start}
+use Rattle.relay_connector.specs.declared.Returned.{Returned}
 use Rattle.relay_request.specs.Bound.{PhaseCounts, TurnedCounts}
 use Rattle.relay_request.specs.Calls.{CallsSoFar, allowed_by, log_of}
 use Rattle.relay_request.specs.Closing.{TurnOf}
@@ -18,18 +19,23 @@ use Rattle.relay_proxy.proofs.turn.take_turn.Goals as goal
 
 -- a turn of the attempt is a turn
 pub returns-then-is_relaying-clause-turn : goal.returns-then-is_relaying-clause-turn
-returns-then-is_relaying-clause-turn g c = λ s p own most first calls run.
-    relaying_run g.K.Byte.ByteLink.state g.K.Byte.ByteLink.start
+returns-then-is_relaying-clause-turn g c =
+    let link_state = upstream_state g.K.Byte.ByteLink.state g.K.Message.MessageLink.state
+    g.K.Custom.MessageLink.state in
+    let link_start = upstream_start g.K.Byte.ByteLink.start g.K.Message.MessageLink.start
+    g.K.Custom.MessageLink.start in
+    λ s p own most first calls run.
+    relaying_run link_state link_start
     (called_to s (log_of c.args.calls.now)) p
     (world_of g.D.ByteLink.state c.args.client.now
     (g.K.Connector.fault_count c.args.connector.now)) own c.args.phase.now
-    (λ (back : List (Returned g.row.K-Byte.Denot)).
-    TurnOf g.K.Byte.ByteLink.state g.K.Byte.ByteLink.start
+    (λ (back : List (Returned _)).
+    TurnOf link_state link_start
     (called_to s (log_of c.relay.new.calls))
     (world_of g.D.ByteLink.state c.relay.new.client
     (g.K.Connector.fault_count c.args.connector.now)) back c.args.phase.now c.relay.new.phase)
     (sym c.is_relaying.ensures ∙ c.if-is_relaying.true) run
-    (λ none. relays_turn g.K.Byte.ByteLink.state g.K.Byte.ByteLink.start
+    (λ none. relays_turn link_state link_start
     (called_to s (log_of c.relay.new.calls))
     (world_of g.D.ByteLink.state c.relay.new.client
     (g.K.Connector.fault_count c.args.connector.now)) c.args.phase.now c.relay.new.phase
@@ -53,7 +59,11 @@ returns-clause-cause g c = inl c.move_on.ensures.cause
 -- the request had not ended
 pub returns-then-is_relaying-clause-rests : goal.returns-then-is_relaying-clause-rests
 returns-then-is_relaying-clause-rests g c =
-    relaying_rests g.K.Byte.ByteLink.state g.K.Byte.ByteLink.start
+    let link_state = upstream_state g.K.Byte.ByteLink.state g.K.Message.MessageLink.state
+    g.K.Custom.MessageLink.state in
+    let link_start = upstream_start g.K.Byte.ByteLink.start g.K.Message.MessageLink.start
+    g.K.Custom.MessageLink.start in
+    relaying_rests link_state link_start
     (world_of g.D.ByteLink.state c.args.client.now
     (g.K.Connector.fault_count c.args.connector.now))
     (world_of g.D.ByteLink.state c.relay.new.client
@@ -76,41 +86,64 @@ returns-then-is_relaying-clause-work g c =
 -- a turn of the attempt adds no refusal of the connector
 pub returns-then-is_relaying-clause-refusals : goal.returns-then-is_relaying-clause-refusals
 returns-then-is_relaying-clause-refusals g c =
-    none_added _ _ _ (relaying_unrefused g.K.Byte.ByteLink.state g.K.Byte.ByteLink.start
+    let link_state = upstream_state g.K.Byte.ByteLink.state g.K.Message.MessageLink.state
+    g.K.Custom.MessageLink.state in
+    let link_start = upstream_start g.K.Byte.ByteLink.start g.K.Message.MessageLink.start
+    g.K.Custom.MessageLink.start in
+    none_added _ _ _ (relaying_unrefused link_state link_start
     c.args.phase.now c.relay.new.phase (sym c.is_relaying.ensures ∙ c.if-is_relaying.true)) refl
 
 -- and tells of those that were answered before
 pub returns-then-is_relaying-clause-tells : goal.returns-then-is_relaying-clause-tells
-returns-then-is_relaying-clause-tells g c = λ live.
-    relaying_tells g.K.Byte.ByteLink.state g.K.Byte.ByteLink.start c.args.phase.now
+returns-then-is_relaying-clause-tells g c =
+    let link_state = upstream_state g.K.Byte.ByteLink.state g.K.Message.MessageLink.state
+    g.K.Custom.MessageLink.state in
+    let link_start = upstream_start g.K.Byte.ByteLink.start g.K.Message.MessageLink.start
+    g.K.Custom.MessageLink.start in
+    λ live.
+    relaying_tells link_state link_start c.args.phase.now
     c.relay.new.phase (sym c.is_relaying.ensures ∙ c.if-is_relaying.true) c.relay.ensures.tries
 
 -- nor does it take any of the offers
 pub returns-then-is_relaying-clause-offers : goal.returns-then-is_relaying-clause-offers
 returns-then-is_relaying-clause-offers g c =
-    takes_nothing _ _ _ (relaying_takes g.K.Byte.ByteLink.state g.K.Byte.ByteLink.start
+    let link_state = upstream_state g.K.Byte.ByteLink.state g.K.Message.MessageLink.state
+    g.K.Custom.MessageLink.state in
+    let link_start = upstream_start g.K.Byte.ByteLink.start g.K.Message.MessageLink.start
+    g.K.Custom.MessageLink.start in
+    takes_nothing _ _ _ (relaying_takes link_state link_start
     c.args.phase.now c.relay.new.phase (sym c.is_relaying.ensures ∙ c.if-is_relaying.true)) refl
 
 -- its next phase holds the same link
 pub returns-then-is_relaying-clause-carries : goal.returns-then-is_relaying-clause-carries
-returns-then-is_relaying-clause-carries g c = λ live.
-    relaying_carries g.K.Byte.ByteLink.state g.K.Byte.ByteLink.start c.args.phase.now
+returns-then-is_relaying-clause-carries g c =
+    let link_state = upstream_state g.K.Byte.ByteLink.state g.K.Message.MessageLink.state
+    g.K.Custom.MessageLink.state in
+    let link_start = upstream_start g.K.Byte.ByteLink.start g.K.Message.MessageLink.start
+    g.K.Custom.MessageLink.start in
+    λ live.
+    relaying_carries link_state link_start c.args.phase.now
     c.relay.new.phase (sym c.is_relaying.ensures ∙ c.if-is_relaying.true) c.relay.ensures.tries
     c.relay.ensures.items
 
 -- its uses are those of both links
 pub returns-then-is_relaying-clause-uses : goal.returns-then-is_relaying-clause-uses
-returns-then-is_relaying-clause-uses g c = λ s p own calls run.
-    relaying_under g.K.Byte.ByteLink.state g.K.Byte.ByteLink.start
+returns-then-is_relaying-clause-uses g c =
+    let link_state = upstream_state g.K.Byte.ByteLink.state g.K.Message.MessageLink.state
+    g.K.Custom.MessageLink.state in
+    let link_start = upstream_start g.K.Byte.ByteLink.start g.K.Message.MessageLink.start
+    g.K.Custom.MessageLink.start in
+    λ s p own calls run.
+    relaying_under link_state link_start
     (allowed_by (g.SV.ProxyHttp.allows c.args.hooks.now) g.SV.Modules.HttpModule.allows)
     (g.SV.ProxyHttp.mark_of c.args.hooks.now) s p
     (world_of g.D.ByteLink.state c.args.client.now
     (g.K.Connector.fault_count c.args.connector.now)) c.args.calls.now own c.args.phase.now
-    (λ (back : List (Returned g.row.K-Byte.Denot)).
+    (λ (back : List (Returned _)).
     TurnUses c.relay.result.work.used (g.D.ByteLink.state c.args.client.now.link)
     (g.D.ByteLink.state c.relay.new.client.link)
-    (held_state g.K.Byte.ByteLink.state c.args.phase.now)
-    (λ link. held_state g.K.Byte.ByteLink.state c.relay.new.phase ≡ Some link))
+    (held_state link_state c.args.phase.now)
+    (λ link. held_state link_state c.relay.new.phase ≡ Some link))
     (sym c.is_relaying.ensures ∙ c.if-is_relaying.true) calls run c.relay.ensures.uses
 
 -- a phase that does not relay heeds no log in them
@@ -120,16 +153,21 @@ returns-clause-uses g c = λ s p own calls run.
 
 -- what it counted of tasks and ends is that of the exchange
 pub returns-then-is_relaying-clause-bounds : goal.returns-then-is_relaying-clause-bounds
-returns-then-is_relaying-clause-bounds g c = λ s p own tasks ends most calls run had.
-    relaying_run g.K.Byte.ByteLink.state g.K.Byte.ByteLink.start
+returns-then-is_relaying-clause-bounds g c =
+    let link_state = upstream_state g.K.Byte.ByteLink.state g.K.Message.MessageLink.state
+    g.K.Custom.MessageLink.state in
+    let link_start = upstream_start g.K.Byte.ByteLink.start g.K.Message.MessageLink.start
+    g.K.Custom.MessageLink.start in
+    λ s p own tasks ends most calls run had.
+    relaying_run link_state link_start
     (called_to s (log_of c.args.calls.now)) p
     (world_of g.D.ByteLink.state c.args.client.now
     (g.K.Connector.fault_count c.args.connector.now)) own c.args.phase.now
-    (λ (back : List (Returned g.row.K-Byte.Denot)).
-    PhaseCounts {C = g.row.SV-CTX.Denot} g.K.Byte.ByteLink.state g.K.Byte.ByteLink.start tasks ends
+    (λ (back : List (Returned _)).
+    PhaseCounts {C = g.row.SV-CTX.Denot} link_state link_start tasks ends
     (called_to s (log_of c.args.calls.now)) (g.D.ByteLink.state c.args.client.now.link)
     c.args.client.now.ahead back c.args.phase.now
-    → TurnedCounts {C = g.row.SV-CTX.Denot} g.K.Byte.ByteLink.state g.K.Byte.ByteLink.start
+    → TurnedCounts {C = g.row.SV-CTX.Denot} link_state link_start
     (c.relay.result.work.moved + tasks) (c.relay.result.work.ended + ends)
     (called_to s (log_of c.relay.new.calls)) (g.D.ByteLink.state c.relay.new.client.link)
     c.relay.new.client.ahead back c.relay.new.phase)
@@ -148,32 +186,37 @@ returns-clause-moves g c = λ a is did.
 
 -- and so often were both links asked
 pub returns-then-is_relaying-clause-counts : goal.returns-then-is_relaying-clause-counts
-returns-then-is_relaying-clause-counts g c = λ s p own n calls run had.
-    relaying_run g.K.Byte.ByteLink.state g.K.Byte.ByteLink.start
+returns-then-is_relaying-clause-counts g c =
+    let link_state = upstream_state g.K.Byte.ByteLink.state g.K.Message.MessageLink.state
+    g.K.Custom.MessageLink.state in
+    let link_start = upstream_start g.K.Byte.ByteLink.start g.K.Message.MessageLink.start
+    g.K.Custom.MessageLink.start in
+    λ s p own n calls run had.
+    relaying_run link_state link_start
     (called_to s (log_of c.args.calls.now)) p
     (world_of g.D.ByteLink.state c.args.client.now
     (g.K.Connector.fault_count c.args.connector.now)) own c.args.phase.now
-    (λ (back : List (Returned g.row.K-Byte.Denot)).
-    PhaseUses {C = g.row.SV-CTX.Denot} g.K.Byte.ByteLink.state g.K.Byte.ByteLink.start n back
+    (λ (back : List (Returned _)).
+    PhaseUses {C = g.row.SV-CTX.Denot} link_state link_start n back
     c.args.phase.now
-    → TurnCounts {C = g.row.SV-CTX.Denot} g.K.Byte.ByteLink.state g.K.Byte.ByteLink.start n
+    → TurnCounts {C = g.row.SV-CTX.Denot} link_state link_start n
     (g.D.ByteLink.state c.args.client.now.link) (g.D.ByteLink.state c.relay.new.client.link)
     c.relay.result.work.used back c.relay.new.phase)
     (sym c.is_relaying.ensures ∙ c.if-is_relaying.true) run
     (λ none had.
-    relaying_under g.K.Byte.ByteLink.state g.K.Byte.ByteLink.start
+    relaying_under link_state link_start
     (allowed_by (g.SV.ProxyHttp.allows c.args.hooks.now) g.SV.Modules.HttpModule.allows)
     (g.SV.ProxyHttp.mark_of c.args.hooks.now) s p
     (world_of g.D.ByteLink.state c.args.client.now
     (g.K.Connector.fault_count c.args.connector.now)) c.args.calls.now [] c.args.phase.now
-    (λ (back : List (Returned g.row.K-Byte.Denot)).
-    TurnCounts {C = g.row.SV-CTX.Denot} g.K.Byte.ByteLink.state g.K.Byte.ByteLink.start n
+    (λ (back : List (Returned _)).
+    TurnCounts {C = g.row.SV-CTX.Denot} link_state link_start n
     (g.D.ByteLink.state c.args.client.now.link) (g.D.ByteLink.state c.relay.new.client.link)
     c.relay.result.work.used [] c.relay.new.phase)
     (sym c.is_relaying.ensures ∙ c.if-is_relaying.true) calls none
     (λ o q a is under. c.relay.ensures.counts o q a n is under
-    (subst (λ (k : Phase g.row.K-Byte.Denot g.row.SV-CTX.Denot).
-    PhaseUses g.K.Byte.ByteLink.state g.K.Byte.ByteLink.start n [] k) is had))) had
+    (subst (λ (k : Phase _ g.row.SV-CTX.Denot).
+    PhaseUses link_state link_start n [] k) is had))) had
 
 -- nor is one asked that does not relay
 pub returns-clause-counts : goal.returns-clause-counts
@@ -182,12 +225,17 @@ returns-clause-counts g c = λ s p own n calls run had.
 
 -- its calls go on with those of its filters
 pub returns-then-is_relaying-clause-calls : goal.returns-then-is_relaying-clause-calls
-returns-then-is_relaying-clause-calls g c = λ s p own most first calls run.
-    relaying_run g.K.Byte.ByteLink.state g.K.Byte.ByteLink.start
+returns-then-is_relaying-clause-calls g c =
+    let link_state = upstream_state g.K.Byte.ByteLink.state g.K.Message.MessageLink.state
+    g.K.Custom.MessageLink.state in
+    let link_start = upstream_start g.K.Byte.ByteLink.start g.K.Message.MessageLink.start
+    g.K.Custom.MessageLink.start in
+    λ s p own most first calls run.
+    relaying_run link_state link_start
     (called_to s (log_of c.args.calls.now)) p
     (world_of g.D.ByteLink.state c.args.client.now
     (g.K.Connector.fault_count c.args.connector.now)) own c.args.phase.now
-    (λ (back : List (Returned g.row.K-Byte.Denot)).
+    (λ (back : List (Returned _)).
     CallsSoFar (allowed_by (g.SV.ProxyHttp.allows c.args.hooks.now) g.SV.Modules.HttpModule.allows)
     (g.SV.ProxyHttp.mark_of c.args.hooks.now) c.relay.new.calls c.relay.new.phase)
     (sym c.is_relaying.ensures ∙ c.if-is_relaying.true) run

@@ -1,5 +1,6 @@
 -- The first connection that is idle is taken out, and given up.
 use Rattle.std.proofs.Common.{◌≡◌, true}
+use Rattle.relay_connector.specs.Upstream.{upstream_state, upstream_start}
 use Rattle.relay_server.specs.Idle.{is_idle}
 use Rattle.relay_server.proofs.FloorLemmas.{first_passes}
 use Rattle.relay_server.proofs.IdleLemmas.{idle_goes}
@@ -14,20 +15,30 @@ idle g c = first_passes is_idle c.take.new.self c.args.place c.in-Some.connectio
 
 -- the connector's links that are out cover its own
 pub give_up-requires : goal.give_up-requires
-give_up-requires g c = rw c.into_inner.ensures
-    (held_by_one g.K.Byte.ByteLink.state g.K.Byte.ByteLink.start c.args.place
+give_up-requires g c =
+    let link_state = upstream_state g.K.Byte.ByteLink.state g.K.Message.MessageLink.state
+    g.K.Custom.MessageLink.state in
+    let link_start = upstream_start g.K.Byte.ByteLink.start g.K.Message.MessageLink.start
+    g.K.Custom.MessageLink.start in
+    rw c.into_inner.ensures
+    (held_by_one link_state link_start c.args.place
     c.in-Some.connection.value c.take.new.self c.args.floor.now
     (g.K.Connector.out c.args.proxy.now.connector) c.in-Some.ensures.taken c.requires.held)
 
 -- the others are served on
 pub returns-clause-goes : goal.returns-clause-goes
-returns-clause-goes g c = rw c.in-Some.ensures.taken
-    (on_leaves g.K.Byte.ByteLink.state g.K.Byte.ByteLink.start g.O.Stream.ByteLink.state
+returns-clause-goes g c =
+    let link_state = upstream_state g.K.Byte.ByteLink.state g.K.Message.MessageLink.state
+    g.K.Custom.MessageLink.state in
+    let link_start = upstream_start g.K.Byte.ByteLink.start g.K.Message.MessageLink.start
+    g.K.Custom.MessageLink.start in
+    rw c.in-Some.ensures.taken
+    (on_leaves link_state link_start g.O.Stream.ByteLink.state
     g.SV.ProxyHttp.allows g.SV.Modules.HttpModule.allows g.SV.ProxyHttp.mark_of
     g.K.Connector.returned g.K.Connector.out g.K.Connector.fault_count
     c.args.proxy.now c.give_up.new.proxy c.args.place c.in-Some.connection.value c.take.new.self
     c.take.new.self
-    (on_given_up g.K.Byte.ByteLink.state g.K.Byte.ByteLink.start g.O.Stream.ByteLink.state
+    (on_given_up link_state link_start g.O.Stream.ByteLink.state
     g.SV.ProxyHttp.allows g.SV.Modules.HttpModule.allows g.SV.ProxyHttp.mark_of
     g.K.Connector.returned g.K.Connector.out g.K.Connector.fault_count
     c.args.proxy.now c.give_up.new.proxy c.in-Some.connection.value c.take.new.self

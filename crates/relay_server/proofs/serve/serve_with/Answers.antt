@@ -1,5 +1,6 @@
 -- From no request under way to none again.
 use Rattle.std.proofs.Common.{◌≡◌, ◌∙◌, ap, arith, inl, inr}
+use Rattle.relay_connector.specs.Upstream.{upstream_state, upstream_start}
 use Rattle.relay_request.specs.Calls.{allowed_by}
 use Rattle.relay_proxy.specs.declared.proxy.HttpProxy.{HttpProxy}
 use Rattle.relay_server.specs.Serving.{books}
@@ -9,15 +10,24 @@ use Rattle.relay_server.proofs.serve.serve_with.Goals as goal
 -- no memory for the floor: no request has ended
 pub returns-in_default-clause-requests : goal.returns-in_default-clause-requests
 returns-in_default-clause-requests g c =
-    none_ended g.K.Byte.ByteLink.state g.K.Byte.ByteLink.start
+    let link_state = upstream_state g.K.Byte.ByteLink.state g.K.Message.MessageLink.state
+    g.K.Custom.MessageLink.state in
+    let link_start = upstream_start g.K.Byte.ByteLink.start g.K.Message.MessageLink.start
+    g.K.Custom.MessageLink.start in
+    none_ended link_state link_start
     (allowed_by (g.SV.ProxyHttp.allows c.args.proxy.now.inner) g.SV.Modules.HttpModule.allows)
     (books g.K.Connector.returned g.K.Connector.fault_count c.args.proxy.now)
 
 -- where as many requests ended as were asked for, giving up counts no more
 pub end_of-requires-2 : goal.end_of-requires-2
-end_of-requires-2 g c = λ done.
+end_of-requires-2 g c =
+    let link_state = upstream_state g.K.Byte.ByteLink.state g.K.Message.MessageLink.state
+    g.K.Custom.MessageLink.state in
+    let link_start = upstream_start g.K.Byte.ByteLink.start g.K.Message.MessageLink.start
+    g.K.Custom.MessageLink.start in
+    λ done.
     let before = books g.K.Connector.returned g.K.Connector.fault_count c.args.proxy.now in
-    let first = first_serves g.K.Byte.ByteLink.state g.K.Byte.ByteLink.start
+    let first = first_serves link_state link_start
     g.O.Stream.ByteLink.state
     (allowed_by (g.SV.ProxyHttp.allows c.args.proxy.now.inner) g.SV.Modules.HttpModule.allows)
     (g.SV.ProxyHttp.mark_of c.args.proxy.now.inner) before c.in-Ok.floor c.in-Ok.ensures in
@@ -29,6 +39,10 @@ end_of-requires-2 g c = λ done.
 -- the requests that ended are those of the floor; the application is the one that it was
 pub returns-clause-requests : goal.returns-clause-requests
 returns-clause-requests g c =
+    let link_state = upstream_state g.K.Byte.ByteLink.state g.K.Message.MessageLink.state
+    g.K.Custom.MessageLink.state in
+    let link_start = upstream_start g.K.Byte.ByteLink.start g.K.Message.MessageLink.start
+    g.K.Custom.MessageLink.start in
     let before = books g.K.Connector.returned g.K.Connector.fault_count c.args.proxy.now in
     let now = c.give_all_up.new.proxy in
     let same : now.inner ≡ c.args.proxy.now.inner =
@@ -36,12 +50,12 @@ returns-clause-requests g c =
     c.give_all_up.ensures.goes.same
     ∙ ap (λ (p : HttpProxy g.row.SV.Denot g.row.K.Denot g.row.P.Denot). p.inner)
     c.serve_floor-stop.ensures.goes.same in
-    let first = first_serves g.K.Byte.ByteLink.state g.K.Byte.ByteLink.start
+    let first = first_serves link_state link_start
     g.O.Stream.ByteLink.state
     (allowed_by (g.SV.ProxyHttp.allows c.args.proxy.now.inner) g.SV.Modules.HttpModule.allows)
     (g.SV.ProxyHttp.mark_of c.args.proxy.now.inner) before c.in-Ok.floor c.in-Ok.ensures in
     rw same at
-    (last_serves g.K.Byte.ByteLink.state g.K.Byte.ByteLink.start g.O.Stream.ByteLink.state
+    (last_serves link_state link_start g.O.Stream.ByteLink.state
     (allowed_by (g.SV.ProxyHttp.allows now.inner) g.SV.Modules.HttpModule.allows)
     (g.SV.ProxyHttp.mark_of now.inner) before
     (books g.K.Connector.returned g.K.Connector.fault_count now)
@@ -52,8 +66,12 @@ returns-clause-requests g c =
 -- giving all up leaves the ports, and counts no request
 pub returns-clause-listens : goal.returns-clause-listens
 returns-clause-listens g c =
+    let link_state = upstream_state g.K.Byte.ByteLink.state g.K.Message.MessageLink.state
+    g.K.Custom.MessageLink.state in
+    let link_start = upstream_start g.K.Byte.ByteLink.start g.K.Message.MessageLink.start
+    g.K.Custom.MessageLink.start in
     let before = books g.K.Connector.returned g.K.Connector.fault_count c.args.proxy.now in
-    let first = first_serves g.K.Byte.ByteLink.state g.K.Byte.ByteLink.start
+    let first = first_serves link_state link_start
     g.O.Stream.ByteLink.state
     (allowed_by (g.SV.ProxyHttp.allows c.args.proxy.now.inner) g.SV.Modules.HttpModule.allows)
     (g.SV.ProxyHttp.mark_of c.args.proxy.now.inner) before c.in-Ok.floor c.in-Ok.ensures in

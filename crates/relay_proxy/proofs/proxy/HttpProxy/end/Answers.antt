@@ -1,5 +1,6 @@
 -- The machine's phase is brought to its end.
 use Rattle.std.proofs.Common.{◌∙◌}
+use Rattle.relay_connector.specs.Upstream.{upstream_state, upstream_start}
 use Rattle.relay_request.specs.Calls.{allowed_by}
 use Rattle.relay_request.specs.Turn.{world_of}
 use Rattle.relay_turns.proofs.EndSteps.{finishes_came, keeps_by, lost_gives, undone_limit}
@@ -8,8 +9,13 @@ use Rattle.relay_proxy.proofs.proxy.HttpProxy.end.Goals as goal
 
 -- a run comes to its end as its phase is brought there
 pub returns-clause-ends : goal.returns-clause-ends
-returns-clause-ends g c = λ s p own run.
-    let e = end_of g.K.Byte.ByteLink.state g.K.Byte.ByteLink.start s p own
+returns-clause-ends g c =
+    let link_state = upstream_state g.K.Byte.ByteLink.state g.K.Message.MessageLink.state
+    g.K.Custom.MessageLink.state in
+    let link_start = upstream_start g.K.Byte.ByteLink.start g.K.Message.MessageLink.start
+    g.K.Custom.MessageLink.start in
+    λ s p own run.
+    let e = end_of link_state link_start s p own
     (world_of g.D.ByteLink.state c.args.client.now
     (g.K.Connector.fault_count c.args.self.now.connector))
     c.args.machine.machine.phase _ _ c.finish-ending.result c.finish-ending.ensures.finishes run in
@@ -27,7 +33,7 @@ returns-clause-ends g c = λ s p own run.
       offered = e.offered;
       uses = e.uses;
       bounded = e.bounded;
-      over = over_end g.K.Byte.ByteLink.state g.K.Byte.ByteLink.start
+      over = over_end link_state link_start
           c.args.machine.machine.phase (g.K.Connector.returned c.args.self.now.connector)
           (g.K.Connector.returned c.finish-ending.new.connector) c.finish-ending.result run.going
           c.finish-ending.ensures.finishes;

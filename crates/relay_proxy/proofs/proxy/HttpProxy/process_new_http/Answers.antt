@@ -1,5 +1,6 @@
 -- The steps add up to the whole request.
 use Rattle.std.proofs.Common.{◌≡◌, List, [], ◌∙◌, ◌+◌, ◌≤◌, arith, inl, refl, ap, subst, sym, true≢false}
+use Rattle.relay_connector.specs.Upstream.{upstream_state, upstream_start}
 use Rattle.relay_tasks.specs.declared.log.LogEntry.{LogEntry}
 use Rattle.relay_tasks.specs.Log.{delays_of}
 use Rattle.relay_links.specs.Count.{last_count}
@@ -12,6 +13,7 @@ use Rattle.relay_request.specs.Turn.{world_of}
 use Rattle.relay_request.proofs.DelayLemmas.{handed_none, handed_on, since_front}
 use Rattle.relay_proxy.specs.declared.proxy.HttpProxy.{HttpProxy}
 use Rattle.relay_proxy.specs.declared.proxy.Outside.{Outside}
+use Rattle.relay_turns.proofs.TakenLemmas.{stocks_kept, stocks_twice}
 use Rattle.relay_turns.proofs.EndSteps.{done_gives, gives_by}
 use Rattle.relay_turns.proofs.LastCalls.{calls_logged}
 use Rattle.relay_turns.proofs.LegLemmas.{behind_first, behind_most}
@@ -22,8 +24,12 @@ use Rattle.relay_proxy.proofs.proxy.HttpProxy.process_new_http.Goals as goal
 -- before the first step the request has begun
 pub loop-turn-init : goal.loop-turn-init
 loop-turn-init g c =
+    let link_state = upstream_state g.K.Byte.ByteLink.state g.K.Message.MessageLink.state
+    g.K.Custom.MessageLink.state in
+    let link_start = upstream_start g.K.Byte.ByteLink.start g.K.Message.MessageLink.start
+    g.K.Custom.MessageLink.start in
     let faults = g.K.Connector.fault_count c.args.self.now.connector in (
-      rw c.begin-machine.ensures.no_log (begun g.K.Byte.ByteLink.state g.K.Byte.ByteLink.start
+      rw c.begin-machine.ensures.no_log (begun link_state link_start
           c.args.self.now.conf.max_retries
           (world_of g.D.ByteLink.state c.args.client.now faults)
           (world_of g.D.ByteLink.state c.begin-machine.new.client faults) _ _ _ _ _ _ _
@@ -35,7 +41,7 @@ loop-turn-init g c =
           c.begin-machine.ensures.unused c.begin-machine.ensures.unmoved
           c.begin-machine.ensures.unended (c.begin-machine.ensures.uncounted _ _ _ [])),
       rw (c.begin-machine.ensures.client, c.take_kept-kept.ensures.after) refl,
-      rw c.begin-machine.ensures.no_items refl,
+      stocks_kept link_start _ _ [] _ _ _ (rw c.begin-machine.ensures.no_items refl) refl,
       omega (arith, c.begin-machine.ensures.no_link),
       rw (c.begin-machine.ensures.client, c.take_kept-kept.ensures.after) refl,
       rw c.begin-machine.ensures.going refl,
@@ -52,8 +58,10 @@ loop-turn-init g c =
 -- a step that stops ends the request
 pub returns-then-is_stop-clause-processes : goal.returns-then-is_stop-clause-processes
 returns-then-is_stop-clause-processes g c =
-    let state = g.K.Byte.ByteLink.state in
-    let start = g.K.Byte.ByteLink.start in
+    let state = upstream_state g.K.Byte.ByteLink.state g.K.Message.MessageLink.state
+    g.K.Custom.MessageLink.state in
+    let start = upstream_start g.K.Byte.ByteLink.start g.K.Message.MessageLink.start
+    g.K.Custom.MessageLink.start in
     let before = c.loop-turn.invariant.0 in
     let s = start_of c.args.self.now.conf.max_retries
     (world_of g.D.ByteLink.state c.args.client.now
@@ -104,7 +112,7 @@ returns-then-is_stop-clause-processes g c =
     (g.K.Connector.fault_count c.step-step.new.self.connector)}))
     (λ done. done_gives state start _ _
     (called_to (behind s under.legs) (log_of c.step-step.new.machine.calls))
-    (g.D.ByteLink.state c.step-step.new.client.link) c.step-step.new.client.ahead _
+    (g.D.ByteLink.state c.step-step.new.client.link) c.step-step.new.client.ahead under.own
     c.step-step.new.machine.machine.phase c.step-step.new.machine.calls.at ends.came
     c.close.result.outcome under.bounded ends.comes ends.given done ends.over))
     c.close.ensures.turns
@@ -116,8 +124,10 @@ returns-then-is_stop-clause-processes g c =
 -- one more step leaves the request under way
 pub loop-turn-preserved : goal.loop-turn-preserved
 loop-turn-preserved g c =
-    let state = g.K.Byte.ByteLink.state in
-    let start = g.K.Byte.ByteLink.start in
+    let state = upstream_state g.K.Byte.ByteLink.state g.K.Message.MessageLink.state
+    g.K.Custom.MessageLink.state in
+    let start = upstream_start g.K.Byte.ByteLink.start g.K.Message.MessageLink.start
+    g.K.Custom.MessageLink.start in
     let under = c.loop-turn.invariant.0 in
     let s = start_of c.args.self.now.conf.max_retries
     (world_of g.D.ByteLink.state c.args.client.now
@@ -139,7 +149,7 @@ loop-turn-preserved g c =
           c.step-step.ensures.front steps
           (one_more _ _ c.step-step.result c.step-step.ensures.counted goes) few,
       c.step-step.ensures.client_start ∙ c.loop-turn.invariant.1,
-      c.step-step.ensures.stock ∙ c.loop-turn.invariant.2,
+      stocks_twice start _ _ _ _ _ _ _ _ _ c.loop-turn.invariant.2 c.step-step.ensures.stock,
       omega (arith, c.step-step.ensures.out, c.loop-turn.invariant.3),
       c.step-step.ensures.kept ∙ c.loop-turn.invariant.4,
       c.step-step.ensures.ended ∙ no_end c.step-step.result goes,
@@ -176,8 +186,10 @@ loop-turn-preserved g c =
 -- where all turns were taken the request ends by its limit
 pub returns-clause-processes : goal.returns-clause-processes
 returns-clause-processes g c =
-    let state = g.K.Byte.ByteLink.state in
-    let start = g.K.Byte.ByteLink.start in
+    let state = upstream_state g.K.Byte.ByteLink.state g.K.Message.MessageLink.state
+    g.K.Custom.MessageLink.state in
+    let start = upstream_start g.K.Byte.ByteLink.start g.K.Message.MessageLink.start
+    g.K.Custom.MessageLink.start in
     let under = c.loop-turn.invariant.0 in
     let s = start_of c.args.self.now.conf.max_retries
     (world_of g.D.ByteLink.state c.args.client.now
@@ -289,3 +301,19 @@ returns-then-is_stop-clause-delays g c =
 -- and where all turns were taken
 pub returns-clause-delays : goal.returns-clause-delays
 returns-clause-delays g c = rw c.close-2.ensures.log c.loop-turn.invariant.13
+
+-- the links of all steps, and those of the end, are those of the request
+pub returns-then-is_stop-clause-stock : goal.returns-then-is_stop-clause-stock
+returns-then-is_stop-clause-stock g c =
+    let start = upstream_start g.K.Byte.ByteLink.start g.K.Message.MessageLink.start
+    g.K.Custom.MessageLink.start in
+    stocks_twice start _ _ _ _ _ _ _ _ _
+    (stocks_twice start _ _ _ _ _ _ _ _ _ c.loop-turn.invariant.2 c.step-step.ensures.stock)
+    (stocks_kept start _ _ _ [] _ _ c.close.ensures.links c.close.ensures.offers)
+
+pub returns-clause-stock : goal.returns-clause-stock
+returns-clause-stock g c =
+    let start = upstream_start g.K.Byte.ByteLink.start g.K.Message.MessageLink.start
+    g.K.Custom.MessageLink.start in
+    stocks_twice start _ _ _ _ _ _ _ _ _ c.loop-turn.invariant.2
+    (stocks_kept start _ _ _ [] _ _ c.close-2.ensures.links c.close-2.ensures.offers)

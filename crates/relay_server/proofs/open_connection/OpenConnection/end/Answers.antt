@@ -1,5 +1,6 @@
 -- The request is ended, and the next one begins where the connection is reused.
 use Rattle.std.proofs.Common.{ap, refl, sym}
+use Rattle.relay_connector.specs.Upstream.{upstream_state, upstream_start}
 use Rattle.relay_request.specs.Calls.{allowed_by}
 use Rattle.relay_proxy.specs.declared.proxy.HttpProxy.{HttpProxy}
 use Rattle.relay_server.specs.Serving.{books}
@@ -8,12 +9,17 @@ use Rattle.relay_server.proofs.open_connection.OpenConnection.end.Goals as goal
 
 -- no request follows
 pub returns-then-not-is_reused-clause-serves : goal.returns-then-not-is_reused-clause-serves
-returns-then-not-is_reused-clause-serves g c = λ before rest ends.
+returns-then-not-is_reused-clause-serves g c =
+    let link_state = upstream_state g.K.Byte.ByteLink.state g.K.Message.MessageLink.state
+    g.K.Custom.MessageLink.state in
+    let link_start = upstream_start g.K.Byte.ByteLink.start g.K.Message.MessageLink.start
+    g.K.Custom.MessageLink.start in
+    λ before rest ends.
     let returned = g.K.Connector.returned in
     let faults = g.K.Connector.fault_count in
     rw (ap (λ (p : HttpProxy g.row.SV.Denot g.row.K.Denot g.row.P.Denot). p.inner)
     c.end-processed.ensures.same)
-    (ends_one g.K.Byte.ByteLink.state g.K.Byte.ByteLink.start g.D.ByteLink.state
+    (ends_one link_state link_start g.D.ByteLink.state
     (allowed_by (g.SV.ProxyHttp.allows c.args.proxy.now.inner)
     g.SV.Modules.HttpModule.allows) (g.SV.ProxyHttp.mark_of c.args.proxy.now.inner) before
     (books returned faults c.args.proxy.now) (books returned faults c.end-processed.new.self)
@@ -32,11 +38,16 @@ returns-then-not-is_reused-clause-serves g c = λ before rest ends.
 
 -- the next request begins
 pub returns-clause-serves : goal.returns-clause-serves
-returns-clause-serves g c = λ before rest ends.
+returns-clause-serves g c =
+    let link_state = upstream_state g.K.Byte.ByteLink.state g.K.Message.MessageLink.state
+    g.K.Custom.MessageLink.state in
+    let link_start = upstream_start g.K.Byte.ByteLink.start g.K.Message.MessageLink.start
+    g.K.Custom.MessageLink.start in
+    λ before rest ends.
     let returned = g.K.Connector.returned in
     let faults = g.K.Connector.fault_count in
     let now = books returned faults c.end-processed.new.self in
-    begins g.K.Byte.ByteLink.state g.K.Byte.ByteLink.start g.D.ByteLink.state
+    begins link_state link_start g.D.ByteLink.state
     (allowed_by (g.SV.ProxyHttp.allows c.end-processed.new.self.inner)
     g.SV.Modules.HttpModule.allows) (g.SV.ProxyHttp.mark_of c.end-processed.new.self.inner) before
     now
@@ -50,7 +61,7 @@ returns-clause-serves g c = λ before rest ends.
     c.begin-machine.ensures.run c.begin-machine.ensures.going
     (rw (ap (λ (p : HttpProxy g.row.SV.Denot g.row.K.Denot g.row.P.Denot). p.inner)
     c.end-processed.ensures.same)
-    (ends_one g.K.Byte.ByteLink.state g.K.Byte.ByteLink.start g.D.ByteLink.state
+    (ends_one link_state link_start g.D.ByteLink.state
     (allowed_by (g.SV.ProxyHttp.allows c.args.proxy.now.inner)
     g.SV.Modules.HttpModule.allows) (g.SV.ProxyHttp.mark_of c.args.proxy.now.inner) before
     (books returned faults c.args.proxy.now) now

@@ -1,4 +1,5 @@
 -- Of a connection that is idle nothing was asked, and nothing was done.
+use Rattle.relay_connector.specs.Upstream.{upstream_state, upstream_start}
 use Rattle.relay_request.specs.Calls.{allowed_by}
 use Rattle.relay_request.specs.Turn.{world_of}
 use Rattle.relay_server.proofs.IdleLemmas.{not_begun, none_called}
@@ -6,8 +7,13 @@ use Rattle.relay_server.proofs.open_connection.OpenConnection.is_idle.Goals as g
 
 -- its head is read, and no byte is ahead
 pub returns-then-is_reading_head-clause-unbegun : goal.returns-then-is_reading_head-clause-unbegun
-returns-then-is_reading_head-clause-unbegun g c = λ faults s p own idle run.
-    not_begun g.K.Byte.ByteLink.state g.K.Byte.ByteLink.start s p
+returns-then-is_reading_head-clause-unbegun g c =
+    let link_state = upstream_state g.K.Byte.ByteLink.state g.K.Message.MessageLink.state
+    g.K.Custom.MessageLink.state in
+    let link_start = upstream_start g.K.Byte.ByteLink.start g.K.Message.MessageLink.start
+    g.K.Custom.MessageLink.start in
+    λ faults s p own idle run.
+    not_begun link_state link_start s p
     (world_of g.D.ByteLink.state c.args.self.now.client faults) own c.args.self.now.phase idle run
 
 -- nor was a hook called

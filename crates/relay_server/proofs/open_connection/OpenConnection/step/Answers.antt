@@ -1,5 +1,6 @@
 -- The proxy's step is a turn of the first request.
 use Rattle.std.proofs.Common.{◌∙◌, ap}
+use Rattle.relay_connector.specs.Upstream.{upstream_state, upstream_start}
 use Rattle.relay_request.specs.Calls.{allowed_by}
 use Rattle.relay_proxy.specs.declared.proxy.HttpProxy.{HttpProxy}
 use Rattle.relay_server.specs.Serving.{books}
@@ -8,10 +9,15 @@ use Rattle.relay_server.proofs.open_connection.OpenConnection.step.Goals as goal
 
 -- a step that does not end the request leaves it under way
 pub returns-clause-goes : goal.returns-clause-goes
-returns-clause-goes g c = λ before rest goes serves.
+returns-clause-goes g c =
+    let link_state = upstream_state g.K.Byte.ByteLink.state g.K.Message.MessageLink.state
+    g.K.Custom.MessageLink.state in
+    let link_start = upstream_start g.K.Byte.ByteLink.start g.K.Message.MessageLink.start
+    g.K.Custom.MessageLink.start in
+    λ before rest goes serves.
     rw (ap (λ (p : HttpProxy g.row.SV.Denot g.row.K.Denot g.row.P.Denot). p.inner)
     c.step-step.ensures.same)
-    (goes_on g.K.Byte.ByteLink.state g.K.Byte.ByteLink.start g.D.ByteLink.state
+    (goes_on link_state link_start g.D.ByteLink.state
     (allowed_by (g.SV.ProxyHttp.allows c.args.proxy.now.inner)
     g.SV.Modules.HttpModule.allows) (g.SV.ProxyHttp.mark_of c.args.proxy.now.inner) before
     (books g.K.Connector.returned g.K.Connector.fault_count c.args.proxy.now) _
@@ -36,10 +42,15 @@ returns-clause-goes g c = λ before rest goes serves.
 
 -- one that ends it leaves it at its end
 pub returns-clause-ends : goal.returns-clause-ends
-returns-clause-ends g c = λ before rest ends serves.
+returns-clause-ends g c =
+    let link_state = upstream_state g.K.Byte.ByteLink.state g.K.Message.MessageLink.state
+    g.K.Custom.MessageLink.state in
+    let link_start = upstream_start g.K.Byte.ByteLink.start g.K.Message.MessageLink.start
+    g.K.Custom.MessageLink.start in
+    λ before rest ends serves.
     rw (ap (λ (p : HttpProxy g.row.SV.Denot g.row.K.Denot g.row.P.Denot). p.inner)
     c.step-step.ensures.same)
-    (ends_now g.K.Byte.ByteLink.state g.K.Byte.ByteLink.start g.D.ByteLink.state
+    (ends_now link_state link_start g.D.ByteLink.state
     (allowed_by (g.SV.ProxyHttp.allows c.args.proxy.now.inner)
     g.SV.Modules.HttpModule.allows) (g.SV.ProxyHttp.mark_of c.args.proxy.now.inner) before
     (books g.K.Connector.returned g.K.Connector.fault_count c.args.proxy.now) _

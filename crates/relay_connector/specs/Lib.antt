@@ -1,0 +1,4 @@
+pub mod Connector
+pub mod ScriptConnector
+pub mod ScriptEntries
+pub mod Upstream
