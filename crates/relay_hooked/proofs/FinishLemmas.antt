@@ -359,7 +359,14 @@ module _ {L : Type 0} (state : L → LinkState) (start_at : L → LinkStart)
 
     -- ---- what it leaves
 
-    -- a link that is kept may serve another request
+    -- the response of a link that is kept was read to its end
+    read_to_end : may_keep_client up.client ≡ true → list_any is_end q.read ≡ true
+    read_to_end kept =
+        tasks_are.ended
+        ∙ keeps_over up.client.response.place
+        (and_left (keeps_at up.client.response.place) _ (kept_parts up.client kept).1)
+
+    -- and it may serve another request
     may_serve : may_keep_client up.client ≡ true
         → MayServe s (passed_by p q) (state up.client.link).ended q.read
     may_serve kept =
@@ -367,10 +374,7 @@ module _ {L : Type 0} (state : L → LinkState) (start_at : L → LinkStart)
         let parts = kept_parts up.client kept in
         let sent = sent_whole u.sending q.sent up.client.request s.sent
         (u.is_head ∙ ap (λ (h : RequestHead). Some h) u.own) u.so_far parts.0 in
-        let ends = tasks_are.ended
-        ∙ keeps_over up.client.response.place
-        (and_left (keeps_at up.client.response.place) _ parts.1) in
-        let all = in_order.are_said.whole ends in
+        let all = in_order.are_said.whole (read_to_end kept) in
         record {
           pieces = sent.pieces;
           request = sent.request;
@@ -399,6 +403,7 @@ module _ {L : Type 0} (state : L → LinkState) (start_at : L → LinkStart)
               (answers_own s (inside p so_far.down.passed.came so_far.down.passed.queued) link ahead
               b.side.session c);
           serves = λ kept. may_serve (and_right (core.may_keep duplex.kind duplex) _ kept);
+          read_whole = λ kept. read_to_end (and_right (core.may_keep duplex.kind duplex) _ kept);
           faultless = λ kept.
               so_far.up.peer.calm
               (kept_unfailed up.client (and_right (core.may_keep duplex.kind duplex) _ kept));
@@ -471,12 +476,18 @@ module _ {L : Type 0} (state : L → LinkState) (start_at : L → LinkStart)
         ⊎ ((r : EndsEarly (filtering s b) s (passed_by p q) (state up.client.link)
         (start_at up.client.link))
         × Leaves (filtering s b) s (passed_by p q) (state up.client.link) (start_at up.client.link)
-        r.order ahead b.side.session (keeps_link duplex up))
+        r.order ahead b.side.session (keeps_link duplex up)
+        × (b.at_first ≡ false → list_any is_end r.order.read ≡ true
+        → Keeps (state up.client.link) (start_at up.client.link) r.order (keeps_link duplex up)))
     finishes_so finishes = elim (decide (list_any is_end p.batched)) [
       | inl ends ↦ inl (
         relayed_of finishes ends,
         leaves_of,
         λ fresh. keeps_of finishes (read_ends ends) fresh,
       )
-      | inr none ↦ inr (early_of finishes none, leaves_of)
+      | inr none ↦ inr (
+        early_of finishes none,
+        leaves_of,
+        λ fresh ends. keeps_of finishes ends fresh,
+      )
     ]

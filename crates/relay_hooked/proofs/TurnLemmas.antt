@@ -201,6 +201,9 @@ module _ {L : Type 0} (state : L → LinkState) (start_at : L → LinkStart) (s 
                     subst (λ (keeps : Bool).
                     Leaves (filtering s b) s passed link_state start r.0.order ahead session keeps)
                     (keeps_same flows) r.1;
+                keeps = λ fresh ends.
+                    subst (λ (keeps : Bool). Keeps link_state start r.0.order keeps)
+                    (keeps_same flows) (r.2 fresh ends);
               })
             ]
 

@@ -1,10 +1,12 @@
 -- An exchange so far behind an application's filters, over an HTTP/1 link to the peer, and what a
 -- turn makes of it.
 use Rattle.std.specs.Prelude.{◌≡◌, ◌⊎◌, ℕ, Bool, true, false, List, Option, None, Some}
+use Rattle.std.specs.List.{list_any}
 use Rattle.relay_tasks.specs.declared.error.Error.{Error}
 use Rattle.relay_tasks.specs.declared.error.Fail.TheVariants as fail
 use Rattle.relay_tasks.specs.declared.log.LogEntry.{LogEntry}
 use Rattle.relay_tasks.specs.declared.task.HttpTask.{HttpTask}
+use Rattle.relay_tasks.specs.Task.{is_end}
 use Rattle.relay_links.specs.Link.{LinkState, LinkStart}
 use Rattle.relay_links.specs.declared.branch.Branch.{Branch}
 use Rattle.relay_session.specs.Asked.{request_of}
@@ -115,6 +117,9 @@ module _ {L : Type 0} (state : L → LinkState) (start_at : L → LinkStart) whe
     pub goes_on : x.down.stopped ≡ None
     pub leaves : Leaves (filtering_of s log x.down) s p (state (link_of x))
         (start_at (link_of x)) early.order ahead x.down.inner.session (may_keep x)
+    -- where the request had not ended before its first piece, and the response was read to its end
+    pub keeps : x.down.at_first ≡ false → list_any is_end early.order.read ≡ true
+        → Keeps (state (link_of x)) (start_at (link_of x)) early.order (may_keep x)
 
   -- what a turn made of it, by its answer: it goes on; both directions were relayed, or the
   -- response was over early; or it failed, for a cause. Out of memory is none, but what was sent

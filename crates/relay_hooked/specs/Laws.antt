@@ -1,6 +1,8 @@
 -- What each exchange behind filters keeps, whatever passed: laws over the pasts of both sides.
-use Rattle.std.specs.Prelude.{◌≡◌, ℕ, false, List, ◌⊎◌}
+use Rattle.std.specs.Prelude.{◌≡◌, ℕ, true, false, List, ◌⊎◌}
+use Rattle.std.specs.List.{list_any}
 use Rattle.relay_tasks.specs.declared.error.Error.{Error}
+use Rattle.relay_tasks.specs.Task.{is_end}
 use Rattle.relay_links.specs.Link.{LinkState, LinkStart}
 use Rattle.relay_peer.specs.declared.peer_side.PeerSide.{PeerSide}
 use Rattle.relay_core.specs.Moves.{Finishes, HasReason, SoFar}
@@ -60,7 +62,7 @@ module _ {L : Type 0} (state : L → LinkState) (start_at : L → LinkStart) whe
 
   -- what finished was relayed, or over towards the client early, where the side behind filters told
   -- no error; and what that leaves. Where the request had not ended before its first piece, a link
-  -- of the peer that may serve another is kept
+  -- of the peer that may serve another is kept, once the response was read to its end
   abbrev pub IsFinishing : Type 0
   IsFinishing = (link : LinkState) (ahead : List ℕ) (s : Origin) (b : Behind) (up : PeerSide L)
       (duplex : Duplex) (p : DownPast) (q : UpPast)
@@ -75,4 +77,6 @@ module _ {L : Type 0} (state : L → LinkState) (start_at : L → LinkStart) whe
       ⊎ ((r : EndsEarly (filtering s b) s (passed_by p q) (state up.client.link)
       (start_at up.client.link))
       × Leaves (filtering s b) s (passed_by p q) (state up.client.link) (start_at up.client.link)
-      r.order ahead b.side.session (keeps_link duplex up))
+      r.order ahead b.side.session (keeps_link duplex up)
+      × (b.at_first ≡ false → list_any is_end r.order.read ≡ true
+      → Keeps (state up.client.link) (start_at up.client.link) r.order (keeps_link duplex up)))

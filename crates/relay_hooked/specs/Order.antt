@@ -311,7 +311,8 @@ pub record MayServe (s : Origin) (p : Passed) (closed : Bool) (read : List HttpT
 
 -- what a finished exchange leaves: a session that says whether the client's own request has ended,
 -- and whether the response that was written closes the connection; the bytes of the client behind
--- the request; and whether the peer's link may be kept, of which no call failed then
+-- the request; and whether the peer's link may be kept, whose response was read to its end then, and
+-- of which no call failed
 pub record Leaves
     (f : Filtering) (s : Origin) (p : Passed) (link : LinkState) (start : LinkStart)
     (order : IsInOrder f s p link.ended) (ahead : List ℕ) (session : HttpSession) (keeps : Bool)
@@ -321,6 +322,7 @@ pub record Leaves
       → IsWhole (asked s p) (body_of order.came) ahead
   pub closes : session.writing.closes ≡ (text_of order).closes
   pub serves : keeps ≡ true → MayServe s p link.ended order.read
+  pub read_whole : keeps ≡ true → list_any is_end order.read ≡ true
   pub faultless : keeps ≡ true → link.faults ≡ start.faults
 
 -- a link that may serve another request is kept, where no call of it failed and the request did not

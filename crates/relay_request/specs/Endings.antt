@@ -352,8 +352,13 @@ pub record IsRelayedEarly
   -- the link is kept only where it may serve another request
   pub kept : keep ≡ true
       → MayServe (origin_at s head sent start.reused began) p link.ended early.order.read
+  -- and where its response was read to the end
+  pub read_whole : keep ≡ true → list_any is_end early.order.read ≡ true
   -- and where no call of it failed
   pub faultless : keep ≡ true → link.faults ≡ start.faults
+  -- and a link whose response was so read, and that may serve another request, is kept, where no
+  -- call of it failed and the request did not end short
+  pub keeps : list_any is_end early.order.read ≡ true → Keeps link start early.order keep
   -- the client goes back exactly where it may ask for more
   pub goes_back : IsTrue reuse
       ↔ IsClientReusable (origin_at s head sent start.reused began) p link.ended early.order

@@ -280,7 +280,9 @@ linked_later s p client ahead f g link start keep told None reuse (inr early) = 
   speaks = early.speaks;
   calm = early.calm;
   kept = early.kept;
+  read_whole = early.read_whole;
   faultless = early.faultless;
+  keeps = early.keeps;
   goes_back = (
     λ back. reusable_later client ahead f g (early.goes_back.0 back),
     λ may. early.goes_back.1 (reusable_later client ahead g f may),

@@ -331,10 +331,11 @@ module _ {L : Type 0} (state : L → LinkState) (start_at : L → LinkStart) (s 
     }
 
     -- one whose response was over early relayed it so far
-    relayed_early : IsOverEarly state start_at there p w.ahead log x
+    relayed_early : x.down.at_first ≡ false
+        → IsOverEarly state start_at there p w.ahead log x
         → IsRelayedEarly (opened_to s log) p w (state (link_of x)) (start_at (link_of x))
         (may_keep x) (client_reusable x w.ahead s.first w.client.faults)
-    relayed_early over = record {
+    relayed_early first over = record {
       head = head;
       sent = sent;
       relayable = relayable;
@@ -346,7 +347,9 @@ module _ {L : Type 0} (state : L → LinkState) (start_at : L → LinkStart) (s 
       speaks = speaks;
       calm = calm;
       kept = over.leaves.serves;
+      read_whole = over.leaves.read_whole;
       faultless = over.leaves.faultless;
+      keeps = over.keeps first;
       goes_back = reusable x there p (state (link_of x)) (start_at (link_of x)) over.early.order
           s.first w (may_keep x) over.answers over.leaves;
       behind = λ ended. over.leaves.behind (over.leaves.ended.1 ended);
@@ -527,7 +530,7 @@ module _ {L C : Type 0} (state : L → LinkState) (start_at : L → LinkStart)
                 (λ same. cc)
                 (inr (relayed_early state start_at s turns.passed now log' began head sent x
                 run.holds.relayable sends_now stands_now (calm ∙ run.calm) speaks_now
-                over));
+                (first ∙ run.holds.at_first) over));
           }
         ]
 
