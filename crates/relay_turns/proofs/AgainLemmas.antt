@@ -7,15 +7,17 @@
 --                           was written is written out as before
 --   begins_out              such a session begins anew once it is written out, where the client's
 --                           link is
---   begins_there            and where that is then
---   based_begins            so does one of which nothing was queued or written
---   begins_any              it begins for each head that may be sent
+--   begins_then             one that begins does so where the client's link is then: that is
+--   begins_there            said of one that began where the link was before, and
+--   based_begins            of one of which nothing was queued or written
+--   begins_any              it begins for each head that may be sent, whatever was called before
 --   begins_accepted         its head was accepted
 --   as_begun_before         a session that a hook left as begun was so before
 use Rattle.std.proofs.Common.{◌≡◌, ℕ, ◌+◌, Bool, true, false, not, ◌&&◌, ◌||◌, List, [], ◌∷◌, ◌++◌, length, Option, Some, None, refl, sym, ap, subst, ◌∙◌, inl, inr, true≢false, arith, le_refl, append-nil}
 use Rattle.std.proofs.lemmas.Bool.{eqb-true}
 use Rattle.std.specs.Prelude.{◌⊎◌, if◌then◌else◌, min}
 use Rattle.relay_tasks.specs.Head.{RequestHead}
+use Rattle.relay_tasks.specs.declared.log.LogEntry.{LogEntry}
 use Rattle.relay_tasks.specs.declared.task.HttpTask.{HttpTask}
 use Rattle.relay_tasks.specs.declared.task.HttpTask.TheVariants as task
 use Rattle.relay_links.specs.Count.{last_count}
@@ -289,13 +291,12 @@ begins_out o down client ahead session c queue is begun =
       tells = c.tells;
     }
 
--- one that begins where the client's link stood does so where it stands then, having given no more
-pub begins_there : (o : Origin) (came : List ℕ) (before after : LinkState) (ahead : List ℕ)
+-- one that begins does so where the client's link stands then, having given no more
+begins_then : (o : Origin) (came : List ℕ) (before after : LinkState) (ahead : List ℕ)
     (session : HttpSession) → after.given ≡ before.given
-    → TellsSince o.read_faults o.write_faults after
-    → BeginsBehind (rebased_to o before) came before ahead session
+    → TellsSince o.read_faults o.write_faults after → BeginsBehind o came before ahead session
     → BeginsBehind (rebased_to o after) came after ahead session
-begins_there o came before after ahead session same tells b = record {
+begins_then o came before after ahead session same tells b = record {
   gave = subst (λ (given : Option (List ℕ)). Since [] o.given given came) (sym same) b.gave;
   written = Since-start [] after.taken;
   faults = le_refl after.faults;
@@ -316,37 +317,29 @@ begins_there o came before after ahead session same tells b = record {
   tells = tells;
 }
 
--- so does one that begins already, where nothing was written since
+-- so does one that begins where the link stood before
+pub begins_there : (o : Origin) (came : List ℕ) (before after : LinkState) (ahead : List ℕ)
+    (session : HttpSession) → after.given ≡ before.given
+    → TellsSince o.read_faults o.write_faults after
+    → BeginsBehind (rebased_to o before) came before ahead session
+    → BeginsBehind (rebased_to o after) came after ahead session
+begins_there o came before after ahead session same tells b =
+    begins_then (rebased_to o before) came before after ahead session same tells b
+
+-- and one that begins already, where nothing was written since
 pub based_begins : (o : Origin) (came : List ℕ) (client : LinkState) (ahead : List ℕ)
     (session : HttpSession) → BeginsBehind o came client ahead session
     → BeginsBehind (rebased_to o client) came client ahead session
-based_begins o came client ahead session b = record {
-  gave = b.gave;
-  written = Since-start [] client.taken;
-  faults = le_refl client.faults;
-  head = b.head;
-  framing = b.framing;
-  len = b.len;
-  has = b.has;
-  has_head = b.has_head;
-  own = b.own;
-  answers = b.answers;
-  body = b.body;
-  request = b.request;
-  kept = b.kept;
-  headed = b.headed;
-  whole = b.whole;
-  response = b.response;
-  output = b.output;
-  tells = b.tells;
-}
+based_begins o came client ahead session b =
+    begins_then o came client client ahead session refl b.tells b
 
--- it begins so for each head that may be sent, over whatever link
+-- it begins so for each head that may be sent, over whatever link, and whatever was called before
 pub begins_any : (o : Origin) (came : List ℕ) (client : LinkState) (ahead : List ℕ)
-    (session : HttpSession) (sent : RequestHead) (reused : Bool)
+    (session : HttpSession) (sent : RequestHead) (reused : Bool) (called : List LogEntry)
     → BeginsBehind o came client ahead session
-    → BeginsBehind (record o { sent = sent; reused = reused }) came client ahead session
-begins_any o came client ahead session sent reused b = record {
+    → BeginsBehind (record o { sent = sent; reused = reused; called = called }) came client ahead
+    session
+begins_any o came client ahead session sent reused called b = record {
   gave = b.gave;
   written = b.written;
   faults = b.faults;

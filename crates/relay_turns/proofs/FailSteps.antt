@@ -820,7 +820,7 @@ module _ {L C M K : Type 0} (state : L → LinkState) (start_at : L → LinkStar
           quiet = asked_quiet l.quiet;
           begins = λ sent reused.
               asked_begins (origin_of (based s w.client) l.head sent reused)
-              (begins_any o p.came w.client w.ahead session.value sent reused again);
+              (begins_any o p.came w.client w.ahead session.value sent reused o.called again);
         }
     begins_next (IsBroken.ahead_of_it l) =
         let head = l.connecting.head in

@@ -90,6 +90,7 @@ use Rattle.relay_request.specs.declared.machine.Phase.TheVariants as phase
 use Rattle.relay_request.specs.declared.record.AttemptRecord.{AttemptRecord}
 use Rattle.relay_request.specs.declared.outcome.Outcome.TheVariants as outcome
 use Rattle.relay_request.specs.declared.work.Work.{Work}
+use Rattle.relay_turns.proofs.AgainLemmas.{begins_any}
 use Rattle.relay_turns.proofs.ConnectSteps.{no_limit, part_relayed, relaying_stands}
 use Rattle.relay_turns.proofs.StandsLemmas.{ends_with}
 use Rattle.relay_request.proofs.CallLemmas.{breaks_more, breaks_same, logged_more, logged_same, none_called, one_called, order_more, sending_more, walks_more}
@@ -1062,32 +1063,6 @@ module _ {L C M K : Type 0} (allows : Standing → LogEntry → Type 0) (mark_of
 
 -- ---- the exchange
 
--- a session that begins behind these bytes does so wherever the calls of its exchange begin
-begins_at : (s : Start) (head sent : RequestHead) (reused : Bool) (began : List LogEntry)
-    (came : List ℕ) (client : LinkState) (ahead : List ℕ) (session : HttpSession)
-    → BeginsBehind (origin_of s head sent reused) came client ahead session
-    → BeginsBehind (origin_at s head sent reused began) came client ahead session
-begins_at s head sent reused began came client ahead session b = record {
-  gave = b.gave;
-  written = b.written;
-  faults = b.faults;
-  head = b.head;
-  framing = b.framing;
-  len = b.len;
-  has = b.has;
-  has_head = b.has_head;
-  own = b.own;
-  answers = b.answers;
-  body = b.body;
-  request = b.request;
-  kept = b.kept;
-  headed = b.headed;
-  whole = b.whole;
-  response = b.response;
-  output = b.output;
-  tells = b.tells;
-}
-
 module _ {L : Type 0} (state : L → LinkState) (start_at : L → LinkStart) where
   -- an exchange that is under way is over a link that tells what passed
   leased_under_way : (s : Start) (o : Origin) (p : Passed) (client : LinkState) (ahead : List ℕ)
@@ -1167,8 +1142,9 @@ module _ {L C : Type 0} (state : L → LinkState) (start_at : L → LinkStart)
             IsUnderWay state start_at origin q w.client w.ahead log' a.exchange)
             (came_alone p k.written k.unsent)
             (begins origin p.came a.lease.reused refl refl refl
-            (begins_at (opened_to s log) k.head given a.lease.reused log p.came w.client w.ahead
-            session.value (k.begins given a.lease.reused)) run.holds.1.fresh refl)
+            (begins_any (origin_of (opened_to s log) k.head given a.lease.reused) p.came w.client
+            w.ahead session.value given a.lease.reused log (k.begins given a.lease.reused))
+            run.holds.1.fresh refl)
 
     -- what the client's link tells stands
     pub begun_tells : (lease : Lease)

@@ -72,7 +72,7 @@ use Rattle.relay_request.specs.Reuse.{client_reusable, has_risen}
 use Rattle.relay_request.specs.Tries.{tries_in}
 use Rattle.relay_request.specs.Turn.{world_with, Advances, HasMoved, HasWaited, MeetsSilence, held_state, is_over}
 use Rattle.relay_request.specs.Uses.{BothUse, ExchangeMoved, LinkUses, MovedBy, OwesAnswer, PhaseUses, TurnCounts, TurnUses, ups, work_by}
-use Rattle.relay_turns.proofs.AgainLemmas.{begins_out, rebased_to}
+use Rattle.relay_turns.proofs.AgainLemmas.{begins_any, begins_out, rebased_to}
 use Rattle.relay_turns.proofs.ConnectSteps.{part_relayed, stands_behind}
 use Rattle.relay_turns.proofs.FilterSteps.{front_past, head_past, named_past, open_past, purges_past, quiet_past, sends_past, tries_past}
 use Rattle.relay_turns.proofs.LastCalls.{IsTurnedCalls, finished_come, going_calls, off_calls, turned_calls}
@@ -201,31 +201,6 @@ reusable x o p link start order first w keeps answers leaves = (
     }
 
 -- ---- what calls of filters keep
-
--- a session that begins begins whatever was called before
-begins_anyhow : (o : Origin) (called : List LogEntry) (came : List ℕ) (link : LinkState)
-    (ahead : List ℕ) (session : HttpSession) → BeginsBehind o came link ahead session
-    → BeginsBehind (record o { called = called }) came link ahead session
-begins_anyhow o called came link ahead session b = record {
-  gave = b.gave;
-  written = b.written;
-  faults = b.faults;
-  head = b.head;
-  framing = b.framing;
-  len = b.len;
-  has = b.has;
-  has_head = b.has_head;
-  own = b.own;
-  answers = b.answers;
-  body = b.body;
-  request = b.request;
-  kept = b.kept;
-  headed = b.headed;
-  whole = b.whole;
-  response = b.response;
-  output = b.output;
-  tells = b.tells;
-}
 
 module _ {L : Type 0} (state : L → LinkState) (start_at : L → LinkStart) where
   -- the session of an exchange that is under way has a head
@@ -581,8 +556,8 @@ module _ {L C : Type 0} (state : L → LinkState) (start_at : L → LinkStart)
           is_left = leads run.holds.is_left own.client.has_head;
           quiet = quiet_past log es log' more plain run.holds.quiet;
           again = λ queue is begun.
-              begins_anyhow (rebased_to here client) [] q.came client ahead
-              (written_out x.down.inner.session)
+              begins_any (rebased_to here client) q.came client ahead
+              (written_out x.down.inner.session) here.sent here.reused []
               (subst (λ (came : List ℕ). BeginsBehind (rebased_to here client) came client ahead
               (written_out x.down.inner.session)) own.came
               (begins_out here own.down client ahead x.down.inner.session own.client queue is
