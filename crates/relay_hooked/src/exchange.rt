@@ -2,8 +2,7 @@
 //! which is held between turns without it, and without the session and the context that hooks are
 //! shown (RFC 9112, sections 6, 7 and 9.3).
 ghost use Rattle.std.specs.declared.alloc.Global.{Global};
-ghost use Rattle.std.specs.Prelude.{◌≡◌, ◌↔◌, ◌^◌, ◌-◌, ◌+◌, ◌*◌, ◌≤◌, Bool, ℕ, List, [], None, Some, false, drop, is_some, length, min, IfOk, IfErr, IsOkUnless, true, ◌⊎◌};
-ghost use Rattle.relay_tasks.specs.Log.{delays_of};
+ghost use Rattle.std.specs.Prelude.{◌≡◌, ◌↔◌, ◌+◌, ◌*◌, ◌≤◌, Bool, ℕ, List, [], None, Some, false, is_some, length, IfOk, IfErr, IsOkUnless, true, ◌⊎◌};
 ghost use Rattle.relay_links.specs.Link.{IsHandedOut};
 ghost use Rattle.relay_h1.specs.Framing.{request_framing};
 ghost use Rattle.relay_h1.specs.Verdict.{refused_from};
@@ -16,7 +15,6 @@ ghost use Rattle.relay_sides.specs.Lent.{SameButHead};
 ghost use Rattle.relay_calls.specs.Log.{IsAllowed};
 ghost use Rattle.relay_exchange.specs.declared.exchange.Stage.TheVariants as stage;
 ghost use Rattle.relay_exchange.specs.Exchange.{TellsOn};
-ghost use Rattle.relay_filters.specs.Delay.{summed};
 ghost use Rattle.relay_filters.specs.Hooked.{Lasts, SameNames, Walks, is_lost, seen_by, stays_of, stood_head};
 ghost use Rattle.relay_filters.specs.Request.{pieces_in};
 ghost use Rattle.relay_filters.specs.Response.{SomeAllow};
@@ -36,7 +34,7 @@ use relay_links::{ByteLink, Schedule};
 use relay_peer::PeerSide;
 use relay_session::{Front, HttpSession};
 use relay_sides::ClientSide;
-use relay_tasks::{Context, ErrorSource, Fail, Pause, PhaseLog, RequestHeader, Result};
+use relay_tasks::{Context, ErrorSource, Fail, Pause, RequestHeader, Result};
 use std::alloc::Global;
 
 /// A request whose head was read, and its response, behind the filters of an application, over one
@@ -256,18 +254,6 @@ impl<L> HookedExchange<L> {
         let HookedExchange { down, exchange } = self;
         let client = down.into_inner().into_session();
         (client, exchange.into_up().into_link())
-    }
-
-    /// The delay in milliseconds that the filters of pieces asked for since it was last taken, or
-    /// since the exchange began, as `Rested::take_delay` of that log, which is the session's.
-    pub fn take_delay(&mut self, log: &PhaseLog) -> u64
-        ensures sum { result
-            ≡ min (summed (drop self.old.down.counted (delays_of log.now))) (2 ^ 64 - 1) }
-        ensures counted { self.new ≡ record self.old {
-          down = record self.old.down { counted = length (delays_of log.now) };
-        } }
-    {
-        self.down.take_delay(log)
     }
 
     /// The link alone.

@@ -184,8 +184,9 @@ pub(crate) fn closed<L, C>(link: L, lease: Lease, keep: bool, outcome: Outcome) 
 }
 
 /// Begins the attempt's exchange over its link, with the head that is sent. Its body has a framing.
-/// What was kept of the client's body passes the application's filter first; where it does not, its
-/// error is that of the attempt, whose link nobody asked.
+/// What was kept of the client's body passes the filters of requests first, the modules' and then
+/// the application's; where it does not, their error is that of the attempt, whose link nobody
+/// asked.
 fn begin<SV: ProxyHttp, L: ByteLink, F: Front>(
     alloc: Global,
     app: &SV,

@@ -1,5 +1,5 @@
--- The delays that calls of a request asked for: each is handed to the outside's `Delay`, in the step
--- of its call and before anything is written that stands behind it.
+-- The delays that calls of a request asked for, as the outside's `Delay` counts them: how many were
+-- handed to it, and how long they are together.
 use Rattle.std.specs.Prelude.{◌≡◌, ℕ, ◌+◌, min, List, [], ◌∷◌, drop, length}
 use Rattle.relay_tasks.specs.Log.{delays_of}
 use Rattle.relay_tasks.specs.declared.log.LogEntry.{LogEntry}

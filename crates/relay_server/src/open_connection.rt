@@ -19,9 +19,9 @@ use std::alloc::Global;
 use std::marker::Model;
 
 /// A client's connection, the request under way on it, and what that asks beside its links: the
-/// branches of the duplex by `ServingSchedule`, no shutdown, and no delay. It means the connection,
-/// where the request stands, the calls of hooks for it, and how many calls of the client's link had
-/// failed as it began.
+/// branches of the duplex by `ServingSchedule`, no shutdown, and delays that are counted and not
+/// waited for. It means the connection, where the request stands, the calls of hooks for it, and how
+/// many calls of the client's link had failed as it began.
 pub(crate) struct OpenConnection<SV: ProxyHttp, K: Connector, D> {
     client: Connection<D, SV::Kept>,
     machine: RequestMachine<SV, K>,

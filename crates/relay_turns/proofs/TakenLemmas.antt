@@ -8,7 +8,7 @@ use Rattle.relay_links.proofs.GainsLemmas.{Gains-nothing}
 use Rattle.relay_connector.specs.declared.Returned.{Returned}
 use Rattle.relay_request.specs.Taken.{TakesAfter, offers_before}
 use Rattle.relay_request.specs.Refusals.{faults_before}
-use Rattle.relay_request.specs.Stock.{Stocks, all_links, items_held, items_back}
+use Rattle.relay_request.specs.Stock.{Stocks, all_links, items_held}
 use Rattle.relay_request.specs.declared.machine.Phase.{Phase}
 
 -- where the connector was not asked nothing is taken
@@ -94,17 +94,6 @@ links_append [] ys = refl
 links_append (Ok link ∷ xs) ys = ap (λ (ls : List Handed). link ∷ ls) (links_append xs ys)
 links_append (Err fault ∷ xs) ys = links_append xs ys
 
--- those of answers that gave a link each
-links_alone : (held : List Handed) → links_of (map Ok held) ≡ held
-links_alone [] = refl
-links_alone (link ∷ held) = ap (λ (ls : List Handed). link ∷ ls) (links_alone held)
-
--- and those of answers behind faults
-links_taken : (faults : List Fault) (held : List Handed)
-    → links_of (map Err faults ++ map Ok held) ≡ held
-links_taken [] held = links_alone held
-links_taken (fault ∷ faults) held = links_taken faults held
-
 -- no link came behind them
 none_behind : (links : Option (List Handed)) → links ≡ option_map (λ ls. ls ++ []) links
 none_behind None = refl
@@ -117,28 +106,6 @@ two_behind : (links : Option (List Handed)) (first then : List Handed)
 two_behind None first then = refl
 two_behind (Some ls) first then =
     ap (λ (xs : List Handed). Some xs) (append_assoc ls first then)
-
--- those that are held came behind those that came back
-held_behind : {L : Type 0} (start : L → LinkStart) (back : Option (List (Returned L)))
-    (held : List Handed)
-    → all_links start back held ≡ option_map (λ ls. ls ++ held) (all_links start back [])
-held_behind start None held = refl
-held_behind start (Some back) held =
-    ap (λ (xs : List Handed). Some (xs ++ held)) (sym (append-nil (items_back start back)))
-
--- where the connector was asked, a link that is held now is the one that it gave
-pub stocks_asked : {L : Type 0} (start : L → LinkStart) (back now : Option (List (Returned L)))
-    (held : List Handed) (faults : List Fault) (before after : Option (List Offer)) → now ≡ back
-    → Takes before (map Err faults ++ map Ok held) after
-    → Stocks start back now [] held before after
-stocks_asked start back now held faults before after same takes = record {
-  taken = map Err faults ++ map Ok held;
-  takes = takes;
-  links = ap (λ (b : Option (List (Returned _))). all_links start b held) same
-      ∙ held_behind start back held
-      ∙ ap (λ (xs : List Handed). option_map (λ ls. ls ++ xs) (all_links start back []))
-      (sym (links_taken faults held));
-}
 
 -- where it was not asked, the links are those that were there
 pub stocks_kept : {L : Type 0} (start : L → LinkStart) (back now : Option (List (Returned L)))

@@ -1,4 +1,4 @@
-//! A body that is kept, and one that is kept no longer: what the log shows of it, and what the
+//! A body that is kept, and one that is kept no longer: what the session says of it, and what the
 //! application that decides nothing makes of the error of an attempt.
 ghost use Rattle.std.specs.Prelude.{IfOk, IsSome, OnOk};
 ghost use Rattle.relay_session.specs.Reading.{head_of};
