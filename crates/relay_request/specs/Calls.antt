@@ -417,7 +417,7 @@ abbrev pub AreMadeBy : {M K X : Type 0} → Bool → Calls M K X → Calls M K X
 AreMadeBy makes old new =
     AreMadeAt makes old.at new.at old.session.modules new.session.modules
 
--- the same of a turn of one in that phase, which calls a hook before the attempts in one alone
+-- the same of a turn, by the phase before it: it is asked for in one alone
 abbrev pub AreMadeIn : {L C M K X : Type 0} → Bool → Phase L C → Calls M K X → Calls M K X → Type 0
 AreMadeIn makes (Connect context session tries) old new = AreMadeBy makes old new
 AreMadeIn makes other old new = Unit {0}
