@@ -20,6 +20,7 @@ const FILTERS: [Hook; 6] = [
 
 /// What came of a request: its client, with what that was written, and which filters of the module
 /// were called, each once, in the order in which they were called first.
+#[derive(Drop)]
 struct Came {
     client: Client,
     filters: Vec<Hook>,

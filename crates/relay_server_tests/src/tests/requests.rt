@@ -62,9 +62,11 @@ const CONF: ServerConf = ServerConf { max_retries: 2 };
 
 /// The connector that hands out the links of these entries.
 fn connector_of(alloc: Global, entries: Vec<PeerScript>) -> Result<ScriptConnector, Fail> {
-    Ok(ScriptConnector::new(alloc, entries)
-        .ok()
-        .ok_or("no memory")?)
+    Ok(
+        ScriptConnector::new(alloc, entries)
+            .ok()
+            .ok_or("no memory")?,
+    )
 }
 
 /// A proxy of that application over the links of these entries, whose requests make modules.
