@@ -12,7 +12,9 @@ use relay_connector::{AnyScript, PeerScript, Returned, ScriptConnector, Upstream
 use relay_h1::Connection;
 use relay_json::{PeerEntry, Script};
 use relay_links::{Branch, CountDelay, ListSchedule, MemoryPurger, ScriptLink, ShutdownAt};
-use relay_proxy::{AttemptList, AttemptRecord, HttpProxy, Outcome, Outside, Processed, ServerConf};
+use relay_proxy::{
+    AttemptList, AttemptRecord, HttpProxy, Outcome, Outside, Processed, ServerConf, http_proxy,
+};
 use relay_script::CheckedRules;
 use relay_scripted::ScriptProxy;
 use relay_tasks::{MOST_LINES, Peer};
@@ -77,7 +79,7 @@ impl Run {
             max_retries: retries.most(),
         };
         Ok(Run {
-            proxy: HttpProxy::new(alloc, application(rules), conf, connector, purger),
+            proxy: http_proxy(alloc, conf, application(rules), connector, purger),
             client: Connection::new(alloc, link),
             outside: outside_of(schedule),
             names,

@@ -6,7 +6,7 @@ use relay_connector::{AnyScript, PeerScript, ScriptConnector, Upstream};
 use relay_h1::Connection;
 use relay_hooks::ProxyHttp;
 use relay_links::{CountDelay, MemoryPurger, ReadItem, RoundRobin, ScriptLink, ShutdownAt};
-use relay_proxy::{HttpProxy, Outside, RunRecord};
+use relay_proxy::{Outside, RunRecord, http_proxy};
 use relay_tasks::{Purged, RetryType};
 use std::alloc::{AllocError, Global};
 use std::{io, str};
@@ -47,7 +47,7 @@ pub fn relay_each<R: Print, SV: ProxyHttp + Drop>(
 ) -> io::Result<()> {
     let connector = connector_to(alloc, scene)?;
     let purger = MemoryPurger::new(alloc, Purged::NotFound);
-    let mut proxy = HttpProxy::new(alloc, application, CONF, connector, purger);
+    let mut proxy = http_proxy(alloc, CONF, application, connector, purger);
     for request in scene.requests {
         let mut client = Connection::new(alloc, link_of(alloc, &[*request])?);
         let mut outside = Outside {

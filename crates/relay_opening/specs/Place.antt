@@ -1,5 +1,5 @@
 -- Where the opening of a request stands, and where a call leads.
-use Rattle.std.specs.Prelude.{Bool, true, false, not, ◌&&◌, is_some, IsSome, Option, None, Some, Result, Ok, Err, if◌then◌else◌}
+use Rattle.std.specs.Prelude.{◌≡◌, Bool, true, false, not, ◌&&◌, is_some, IsSome, Option, None, Some, Result, Ok, Err, if◌then◌else◌}
 use Rattle.relay_tasks.specs.declared.error.Fail.{Fail}
 use Rattle.relay_tasks.specs.declared.error.Fail.TheVariants as fail
 use Rattle.relay_tasks.specs.declared.hook.Hook.{Hook}
@@ -77,10 +77,18 @@ next_hook called.Headed has_modules = hook.RequestFilter
 next_hook called.Filtered has_modules = hook.IsPurge
 next_hook called.Sending has_modules = hook.ProxyUpstreamFilter
 
--- where it was just asked for subrequests, the modules were made
-abbrev pub AreMade : {K M : Type 0} → Place K → Place K → Option M → Type 0
-AreMade (place.Behind called.Early) (place.Behind last) made = IsSome made
-AreMade other to made = Unit {0}
+-- ---- which modules stand
+
+-- the modules behind the question for subrequests: some, where the request makes modules; and else
+-- those that stood before it
+abbrev pub StandBehind : {M : Type 0} → Bool → Option M → Option M → Type 0
+StandBehind true old new = IsSome new
+StandBehind false old new = new ≡ old
+
+-- where it was just asked for subrequests, and that did not fail, they stand so
+abbrev pub AreMade : {K M : Type 0} → Bool → Place K → Place K → Option M → Option M → Type 0
+AreMade makes (place.Behind called.Early) (place.Behind last) old new = StandBehind makes old new
+AreMade makes other to old new = Unit {0}
 
 -- ---- which calls of the modules may come
 

@@ -10,7 +10,7 @@ ghost use Rattle.relay_phases.specs.Modules.{MakesModules};
 ghost use Rattle.relay_phases.specs.Order.{sending};
 ghost use Rattle.relay_opening.specs.Opens.{OpensSoFar, TurnsOn, TurnsTo};
 ghost use Rattle.relay_opening.specs.Refusal.{Refuses};
-ghost use Rattle.relay_opening.specs.Place.{AreMade, Includes, NoCalls, TurnAllows, may_go_on};
+ghost use Rattle.relay_opening.specs.Place.{AreMade, Includes, NoCalls, StandBehind, TurnAllows, may_go_on};
 
 use crate::place::{Called, End, Place, behind, behind_say, failed};
 use relay_hooks::{HttpModule, ProxyHttp, Session};
@@ -51,8 +51,8 @@ pub fn begin_opening<SV: ProxyHttp>(
 /// it has ended nothing is called, and the place is the same again.
 ///
 /// `makes_modules` says that the request has modules, which are made behind
-/// `allow_spawning_subrequest`. The context is that of the request, and `app` the application to
-/// which it belongs; each turn is given the same.
+/// `allow_spawning_subrequest`; else the modules stay as they are there. The context is that of the
+/// request, and `app` the application to which it belongs; each turn is given the same.
 pub fn take_turn<SV: ProxyHttp>(
     app: &SV,
     session: &mut Session<SV::Modules>,
@@ -76,7 +76,7 @@ pub fn take_turn<SV: ProxyHttp>(
         first mark result
         session.new.seen (SV.mark_of app.now ctx.new) }
     ensures ready { IsTrue (may_go_on result session.new.seen) }
-    ensures made { makes_modules ≡ true → AreMade place result session.new.modules }
+    ensures made { AreMade makes_modules place result session.old.modules session.new.modules }
 {
     match place {
         Place::Behind(last) => call_next(app, session, ctx, last, makes_modules),
@@ -100,8 +100,8 @@ fn call_next<SV: ProxyHttp>(
         (is_some session.old.modules)
         (Place.Behind last) session.old.seen
         (SV.mark_of app.now ctx.old) session.new.seen (SV.mark_of app.now ctx.new) result }
-    ensures made { makes_modules ≡ true
-        → AreMade (Place.Behind last) result session.new.modules }
+    ensures made { AreMade makes_modules (Place.Behind last) result session.old.modules
+        session.new.modules }
 {
     match last {
         Called::Made(Some(kept)) => {
@@ -168,7 +168,8 @@ fn ask_and_make<SV: ProxyHttp>(
     ensures calls { MakesModules (Looks (SV.allows app.now) Hook.AllowSpawningSubrequest
         (Item.Request (request_head session.old.seen)) (SV.mark_of app.now ctx.now)
         session.old.seen session.new.seen) result session.old.seen session.new.seen }
-    ensures made { makes_modules ≡ true → OnOk result (IsSome session.new.modules) }
+    ensures made { OnOk result (StandBehind makes_modules session.old.modules
+        session.new.modules) }
 {
     if makes_modules {
         make_modules(app, session, ctx)

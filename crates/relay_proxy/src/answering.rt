@@ -6,7 +6,7 @@ ghost use Rattle.relay_attempt.specs.Passed.{Passed};
 ghost use Rattle.relay_h1.specs.Move.{taken};
 ghost use Rattle.relay_session.specs.Response.{pending, Holds, MayWrite, WritesPending};
 ghost use Rattle.relay_request.specs.Bound.{CountsAnswer, CountsCall};
-ghost use Rattle.relay_request.specs.Calls.{Owing, closed_with, log_of};
+ghost use Rattle.relay_request.specs.Calls.{Owing, closed_with, is_closing_at, log_of};
 ghost use Rattle.relay_request.specs.Endings.{error_of};
 ghost use Rattle.relay_request.specs.Owed.{is_served, outcome_owed, outcome_written};
 ghost use Rattle.relay_request.specs.Passed.{Start};
@@ -208,6 +208,7 @@ pub(crate) fn owe<M: HttpModule + Drop, K: Drop, L: ByteLink, C: Drop>(
         × (result.step ≡ RunStep.Ended) }
     ensures owes { result.step ≡ RunStep.Moved → OwesAnswer result.phase }
     ensures calls { Owing session.value owed calls.old calls.new result.phase }
+    ensures stays { is_closing_at calls.old.at ≡ true → is_closing_at calls.new.at ≡ true }
     ensures step { (result.step ≡ RunStep.Moved) ⊎ (result.step ≡ RunStep.Ended) }
     ensures counts { CountsCall attempts result.phase result.work }
     ensures over { is_over result.phase ≡ is_end result.step }

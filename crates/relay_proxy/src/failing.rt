@@ -234,7 +234,8 @@ fn repeat<SV: ProxyHttp, L: ByteLink>(
     let mut context = context;
     let mut session = session;
     calls.repeat(treated);
-    match call_next(app, calls, &mut context, &mut session) {
+    // It is asked for the warning, behind which no modules are made.
+    match call_next(app, calls, &mut context, &mut session, false) {
         Opened::GoesOn => Next {
             phase: Phase::Again(context, session, link, lease, keep, treated),
             step: RunStep::Moved,

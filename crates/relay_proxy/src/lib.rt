@@ -15,6 +15,6 @@ mod relaying;
 mod turn;
 mod unlinked;
 
-pub use proxy::{HttpProxy, Outside, RequestMachine, ServerConf};
+pub use proxy::{HttpProxy, Outside, RequestMachine, ServerConf, http_proxy};
 pub use relay_hooks::{Defaults, ProxyHttp};
 pub use relay_request::{AttemptList, AttemptRecord, Outcome, Processed, RunRecord, RunStep};

@@ -12,7 +12,7 @@ ghost use Rattle.relay_tasks.specs.Head.{RequestHead};
 ghost use Rattle.relay_tasks.specs.declared.log.LogEntry.{LogEntry};
 ghost use Rattle.relay_attempt.specs.Passed.{Passed};
 ghost use Rattle.relay_request.specs.Bound.{CountsCall, CountsLink};
-ghost use Rattle.relay_request.specs.Calls.{CallsSoFar, CountsCalls, IsUnended, Owing, allowed_by, final_at, is_calling, log_of};
+ghost use Rattle.relay_request.specs.Calls.{AreMadeBy, CallsSoFar, CountsCalls, IsUnended, Owing, allowed_by, final_at, is_calling, log_of};
 ghost use Rattle.relay_request.specs.Passed.{World, Start, called_to, opened_to};
 ghost use Rattle.relay_request.specs.Phases.{RunSoFar};
 ghost use Rattle.relay_request.specs.Purging.{AsksPurger};
@@ -39,12 +39,13 @@ use relay_tasks::Error;
 
 /// Calls the hook that comes next, while no peer is named, or has the application answer the error
 /// with which one stopped the request, or the purger asked for a purge; and then asks the connector
-/// for a link to the peer.
+/// for a link to the peer. `makes_modules` says that the request has modules.
 pub(crate) fn reach<SV: ProxyHttp, K: Connector, P: Purger>(
     app: &SV,
     connector: &mut K,
     purger: &mut P,
     most: usize,
+    makes_modules: bool,
     calls: &mut Calls<SV::Modules, SV::Kept, SV::CTX>,
     context: SV::CTX,
     session: Box<HttpSession>,
@@ -94,6 +95,7 @@ pub(crate) fn reach<SV: ProxyHttp, K: Connector, P: Purger>(
         (SV.mark_of app.now) calls.old (Phase.Connect context session tries)
         → AsksPurger (P.state purger.old) (P.state purger.new) (log_of calls.old)
         (log_of calls.new) result.phase }
+    ensures made { AreMadeBy makes_modules calls.old calls.new }
 {
     if let Some(error) = calls.final_error() {
         return answer(app, calls, context, session, tries, error);
@@ -102,7 +104,7 @@ pub(crate) fn reach<SV: ProxyHttp, K: Connector, P: Purger>(
         return purge(app, purger, calls, context, session, tries, action);
     }
     if calls.is_calling() {
-        return open(app, calls, context, session, tries);
+        return open(app, makes_modules, calls, context, session, tries);
     }
     connect(app, connector, most, calls, context, session, tries)
 }
@@ -110,6 +112,7 @@ pub(crate) fn reach<SV: ProxyHttp, K: Connector, P: Purger>(
 /// Calls the hook that comes next, and no other.
 fn open<SV: ProxyHttp, L: ByteLink>(
     app: &SV,
+    makes_modules: bool,
     calls: &mut Calls<SV::Modules, SV::Kept, SV::CTX>,
     context: SV::CTX,
     session: Box<HttpSession>,
@@ -139,10 +142,11 @@ fn open<SV: ProxyHttp, L: ByteLink>(
     ensures attempts { attempts_in result.phase ≡ tries }
     // The end of the request does not begin with it.
     ensures unended { IsUnended (log_of calls.old) → IsUnended (log_of calls.new) }
+    ensures made { AreMadeBy makes_modules calls.old calls.new }
 {
     let mut context = context;
     let mut session = session;
-    match call_next(app, calls, &mut context, &mut session) {
+    match call_next(app, calls, &mut context, &mut session, makes_modules) {
         Opened::GoesOn => Next {
             phase: Phase::Connect(context, session, tries),
             step: RunStep::Moved,

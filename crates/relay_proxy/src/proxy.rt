@@ -9,7 +9,7 @@ ghost use Rattle.relay_peer.specs.Body.{IsFrontOf};
 ghost use Rattle.relay_attempt.specs.Passed.{Passed};
 ghost use Rattle.relay_request.specs.Bound.{PhaseCounts};
 ghost use Rattle.relay_phases.specs.Order.{Station};
-ghost use Rattle.relay_request.specs.Calls.{CallsLast, CallsSoFar, CountsLast, IsLogged, KeepsValue, allowed_by, is_ending, is_exchanging, kept_at, last_of, log_of};
+ghost use Rattle.relay_request.specs.Calls.{AreMadeIn, CallsLast, CallsSoFar, CountsLast, IsLogged, KeepsValue, allowed_by, is_ending, is_exchanging, kept_at, last_of, log_of};
 ghost use Rattle.relay_links.specs.Count.{up};
 ghost use Rattle.relay_request.specs.Delays.{HandsOver, delays_since};
 ghost use Rattle.relay_request.specs.Passed.{Start, called_to, start_of, nothing};
@@ -58,9 +58,32 @@ pub struct HttpProxy<SV, K, P> {
     alloc: Global,
     inner: SV,
     conf: ServerConf,
+    makes_modules: bool,
     connector: K,
     purger: P,
     requests_ended: u64,
+}
+
+/// A proxy whose requests make their modules: `HttpProxy::new`, and then `handle_init_modules`.
+/// `max_retries` is at least 1.
+pub fn http_proxy<SV: ProxyHttp, K: Connector, P: Purger>(
+    alloc: Global,
+    conf: ServerConf,
+    inner: SV,
+    connector: K,
+    purger: P,
+) -> HttpProxy<SV, K, P>
+    requires { 1 ≤ conf.max_retries }
+    ensures connector { result.connector ≡ connector }
+    ensures inner { result.inner ≡ inner }
+    ensures conf { result.conf ≡ conf }
+    ensures purger { result.purger ≡ purger }
+    ensures modules { result.makes_modules ≡ true }
+    ensures none_ended { result.requests_ended ≡ 0 }
+{
+    let mut proxy = HttpProxy::new(alloc, inner, conf, connector, purger);
+    proxy.handle_init_modules();
+    proxy
 }
 
 /// A request under way. It holds the link of its attempt, so it is given to `end`.
@@ -136,23 +159,34 @@ impl<SV: ProxyHttp, K: Connector> RequestMachine<SV, K> {
 }
 
 impl<SV: ProxyHttp, K: Connector, P: Purger> HttpProxy<SV, K, P> {
-    /// A proxy. `max_retries` is at least 1.
+    /// A proxy whose requests have no modules. `max_retries` is at least 1.
     pub fn new(alloc: Global, inner: SV, conf: ServerConf, connector: K, purger: P) -> Self
         requires { 1 ≤ conf.max_retries }
         ensures connector { result.connector ≡ connector }
         ensures inner { result.inner ≡ inner }
         ensures conf { result.conf ≡ conf }
         ensures purger { result.purger ≡ purger }
+        ensures modules { result.makes_modules ≡ false }
         ensures none_ended { result.requests_ended ≡ 0 }
     {
         HttpProxy {
             alloc,
             inner,
             conf,
+            makes_modules: false,
             connector,
             purger,
             requests_ended: 0,
         }
+    }
+
+    /// From now on each request makes its modules, by `init_downstream_modules`, as it is asked for
+    /// subrequests: each that is begun, and each under way that was not asked yet. Before this was
+    /// called none does, and no filter of a module runs.
+    pub fn handle_init_modules(&mut self)
+        ensures { self.new ≡ record self.old { makes_modules = true } }
+    {
+        self.makes_modules = true;
     }
 
     /// The connector.
@@ -193,6 +227,7 @@ impl<SV: ProxyHttp, K: Connector, P: Purger> HttpProxy<SV, K, P> {
         ensures calls { CallsSoFar (allowed_by (SV.allows self.now.inner) SV.Modules.allows)
             (SV.mark_of self.now.inner) result.calls result.machine.phase }
         ensures no_log { log_of result.calls ≡ [] }
+        ensures no_modules { result.calls.session.modules ≡ None }
         ensures starts { called_to (start_of self.now.conf.max_retries
             (world_of D.state client.old (K.fault_count self.now.connector)))
             (log_of result.calls) ≡ start_of self.now.conf.max_retries
@@ -291,6 +326,10 @@ impl<SV: ProxyHttp, K: Connector, P: Purger> HttpProxy<SV, K, P> {
             (SV.mark_of self.old.inner) machine.old.calls machine.old.machine.phase
             → AsksPurger (P.state self.old.purger) (P.state self.new.purger)
             (log_of machine.old.calls) (log_of machine.new.calls) machine.new.machine.phase }
+        // Where it was asked for subrequests in this step, and goes on, it has modules behind that
+        // where the proxy makes them, and else those that it had.
+        ensures made { AreMadeIn self.old.makes_modules machine.old.machine.phase
+            machine.old.calls machine.new.calls }
         // Before there is a link it moved something of the client, or went on to its next phase; in
         // an exchange it asked a link once, or none and it moved a task or brought an end, by the
         // branch that it took. It waits only where a link answered so in this step; and in silence
@@ -480,6 +519,10 @@ impl<SV: ProxyHttp, K: Connector, P: Purger> HttpProxy<SV, K, P> {
             (SV.mark_of self.old.inner) machine.old.calls machine.old.machine.phase
             → AsksPurger (P.state self.old.purger) (P.state self.new.purger)
             (log_of machine.old.calls) (log_of machine.new.calls) machine.new.machine.phase }
+        // Where it was asked for subrequests in this step, and goes on, it has modules behind that
+        // where the proxy makes them, and else those that it had.
+        ensures made { AreMadeIn self.old.makes_modules machine.old.machine.phase
+            machine.old.calls machine.new.calls }
         // Before there is a link it moved something of the client, or went on to its next phase; in
         // an exchange it asked a link once, or none and it moved a task or brought an end, by the
         // branch that it took. It waits only where a link answered so in this step; and in silence
@@ -569,6 +612,7 @@ impl<SV: ProxyHttp, K: Connector, P: Purger> HttpProxy<SV, K, P> {
             &mut self.connector,
             &mut self.purger,
             self.conf.max_retries,
+            self.makes_modules,
             machine.machine.first,
             &mut machine.calls,
             client,

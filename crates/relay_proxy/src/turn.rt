@@ -4,7 +4,7 @@ ghost use Rattle.std.specs.Global.{Box};
 ghost use Rattle.relay_links.specs.Told.{Gains};
 ghost use Rattle.relay_attempt.specs.Passed.{Passed};
 ghost use Rattle.relay_request.specs.Bound.{PhaseCounts, TurnedCounts};
-ghost use Rattle.relay_request.specs.Calls.{CallsSoFar, GrowsCalls, allowed_by, is_exchanging, log_of};
+ghost use Rattle.relay_request.specs.Calls.{AreMadeIn, CallsSoFar, GrowsCalls, allowed_by, is_exchanging, log_of};
 ghost use Rattle.relay_request.specs.Closing.{Rests, TurnOf};
 ghost use Rattle.relay_connector.specs.Connector.{Takes, links_of};
 ghost use Rattle.relay_request.specs.Taken.{offers_before, offers_of_turn};
@@ -34,15 +34,16 @@ use std::mem;
 
 /// One turn: one call of one link, of the connector or of a hook, one of the purger with that of a
 /// hook behind it, one verdict on a head, or one branch of the duplex, with the calls of filters
-/// that it makes. A request makes `most`
-/// attempts at most, and as it began, `first` calls of the client's link had failed. A phase that
-/// relays is turned where it stands, since it has the most turns.
+/// that it makes. A request makes `most` attempts at most, and modules where `makes_modules` says
+/// so; as it began, `first` calls of the client's link had failed. A phase that relays is turned
+/// where it stands, since it has the most turns.
 pub(crate) fn take_turn<SV: ProxyHttp, K: Connector, P: Purger, D: ByteLink, U: Drop, H: Schedule>(
     alloc: Global,
     hooks: &SV,
     connector: &mut K,
     purger: &mut P,
     most: usize,
+    makes_modules: bool,
     first: u64,
     calls: &mut Calls<SV::Modules, SV::Kept, SV::CTX>,
     client: &mut Connection<D, U>,
@@ -153,11 +154,22 @@ pub(crate) fn take_turn<SV: ProxyHttp, K: Connector, P: Purger, D: ByteLink, U: 
         ≡ all_links ⟦<LinkOf<K> as ByteLink>⟧.start (K.returned connector.old)
         (items_held ⟦<LinkOf<K> as ByteLink>⟧.start phase.old
         ++ links_of (offers_of_turn ⟦<LinkOf<K> as ByteLink>⟧.start phase.old phase.new)) }
+    ensures made { AreMadeIn makes_modules phase.old calls.old calls.new }
 {
     if phase.is_relaying() {
         return relay(alloc, hooks, first, calls, client, schedule, phase);
     }
-    move_on(alloc, hooks, connector, purger, most, calls, client, phase)
+    move_on(
+        alloc,
+        hooks,
+        connector,
+        purger,
+        most,
+        makes_modules,
+        calls,
+        client,
+        phase,
+    )
 }
 
 /// One turn of a phase that does not relay. It is taken out of its place, and the next is put
@@ -168,6 +180,7 @@ fn move_on<SV: ProxyHttp, K: Connector, P: Purger, D: ByteLink, U: Drop>(
     connector: &mut K,
     purger: &mut P,
     most: usize,
+    makes_modules: bool,
     calls: &mut Calls<SV::Modules, SV::Kept, SV::CTX>,
     client: &mut Connection<D, U>,
     phase: &mut Phase<LinkOf<K>, SV::CTX>,
@@ -258,12 +271,21 @@ fn move_on<SV: ProxyHttp, K: Connector, P: Purger, D: ByteLink, U: Drop>(
         ≡ all_links ⟦<LinkOf<K> as ByteLink>⟧.start (K.returned connector.old)
         (items_held ⟦<LinkOf<K> as ByteLink>⟧.start phase.old
         ++ links_of (offers_of_turn ⟦<LinkOf<K> as ByteLink>⟧.start phase.old phase.new)) }
+    ensures made { AreMadeIn makes_modules phase.old calls.old calls.new }
 {
     match mem::replace(phase, Phase::ReadHead) {
         Phase::ReadHead => phase.go_on(read_head(alloc, hooks, calls, client)),
         Phase::Connect(context, session, tries) => {
             phase.go_on(reach(
-                hooks, connector, purger, most, calls, context, session, tries,
+                hooks,
+                connector,
+                purger,
+                most,
+                makes_modules,
+                calls,
+                context,
+                session,
+                tries,
             ))
         }
         Phase::Unlinked(context, session, attempts, error) => {

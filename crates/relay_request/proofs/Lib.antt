@@ -5,3 +5,4 @@ pub mod NamedLemmas
 pub mod BesideLemmas
 pub mod TreatLemmas
 pub mod DelayLemmas
+pub mod MadeLemmas

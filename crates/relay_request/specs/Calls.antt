@@ -10,7 +10,7 @@ use Rattle.relay_tasks.specs.declared.log.Item.TheVariants as item
 use Rattle.relay_tasks.specs.declared.log.LogEntry.{LogEntry}
 use Rattle.relay_tasks.specs.declared.peer.PurgeAction.{PurgeAction}
 use Rattle.std.specs.List.{list_any}
-use Rattle.relay_session.specs.Reading.{head_of, is_truncated}
+use Rattle.relay_session.specs.Reading.{is_truncated}
 use Rattle.relay_session.specs.Response.{has_head}
 use Rattle.relay_session.specs.declared.session.HttpSession.{HttpSession}
 use Rattle.std.specs.Global.{Box}
@@ -25,7 +25,7 @@ use Rattle.relay_phases.specs.Order.{Accepts, Station, accepted, sent}
 use Rattle.relay_phases.specs.Order.{Station as station}
 use Rattle.relay_phases.specs.Turns.{QueuesNothing, Turns}
 use Rattle.relay_opening.specs.Opens.{TurnsTo}
-use Rattle.relay_opening.specs.Place.{end_station, next_hook, station_of}
+use Rattle.relay_opening.specs.Place.{StandBehind, end_station, next_hook, station_of}
 use Rattle.relay_opening.specs.declared.place.Called.TheVariants as called
 use Rattle.relay_opening.specs.declared.place.End.TheVariants as end
 use Rattle.relay_opening.specs.declared.place.Place.{Place}
@@ -404,6 +404,23 @@ module _ (allows : Standing → LogEntry → Type 0) where
   CallsNext old client mark new left behind =
       TakesNext old.at (is_some old.session.modules) (seen_with old client) mark
       (seen_with new left) behind new.at
+
+-- where it was just asked for subrequests, and the request goes on, modules stand behind that where
+-- it makes them, and else those that stood before
+abbrev pub AreMadeAt : {M K X : Type 0} → Bool → At K X → At K X → Option M → Option M → Type 0
+AreMadeAt makes (at.Opening (place.Behind called.Early)) (at.Opening (place.Behind last)) old new =
+    StandBehind makes old new
+AreMadeAt makes other to old new = Unit {0}
+
+-- the same of the calls of a request
+abbrev pub AreMadeBy : {M K X : Type 0} → Bool → Calls M K X → Calls M K X → Type 0
+AreMadeBy makes old new =
+    AreMadeAt makes old.at new.at old.session.modules new.session.modules
+
+-- the same of a turn, by the phase before it: it is asked for in one alone
+abbrev pub AreMadeIn : {L C M K X : Type 0} → Bool → Phase L C → Calls M K X → Calls M K X → Type 0
+AreMadeIn makes (Connect context session tries) old new = AreMadeBy makes old new
+AreMadeIn makes other old new = Unit {0}
 
 -- each call is allowed: by the application, or where a filter of modules was called, by modules of
 -- its requests

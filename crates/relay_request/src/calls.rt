@@ -11,7 +11,7 @@ ghost use Rattle.relay_trying.specs.Trying.{FiltersHead, TellsConnected, Treats,
 ghost use Rattle.relay_closing.specs.Place.{begun, is_lost, may_fail};
 ghost use Rattle.relay_purging.specs.Asked.{IsAsked};
 ghost use Rattle.relay_purging.specs.Purging.{PurgesTo};
-ghost use Rattle.relay_request.specs.Calls.{CallsLast, CallsNext, CountsCalls, HasAnswered, HasBegun, TakesNext, allowed_by, closed_with, ended_with, final_at, given_at, has_last, is_calling, is_closing_at, is_lost_at, kept_at, leads_at, leads_to, log_of, purge_at, seen_with, treated_at};
+ghost use Rattle.relay_request.specs.Calls.{AreMadeAt, AreMadeBy, CallsLast, CallsNext, CountsCalls, HasAnswered, HasBegun, TakesNext, allowed_by, closed_with, ended_with, final_at, given_at, has_last, is_calling, is_closing_at, is_lost_at, kept_at, leads_at, leads_to, log_of, purge_at, seen_with, treated_at};
 
 use crate::closing_hooks::{calls_next, failed_with, given, kept_in};
 use crate::outcome::Outcome;
@@ -341,8 +341,8 @@ pub fn begin_calls<SV: ProxyHttp>(
     Ok(context)
 }
 
-/// Calls the hook that comes next, and no other, and answers what it led to. The request has
-/// modules, which are made behind `allow_spawning_subrequest`.
+/// Calls the hook that comes next, and no other, and answers what it led to. `makes_modules` says
+/// that the request has modules, which are made behind `allow_spawning_subrequest`; else none are.
 ///
 /// A hook is called only for a client whose head was read and to whom no final head was queued:
 /// where it is called next that is so, and else this is out of memory.
@@ -351,19 +351,21 @@ pub fn call_next<SV: ProxyHttp>(
     calls: &mut Calls<SV::Modules, SV::Kept, SV::CTX>,
     context: &mut SV::CTX,
     client: &mut HttpSession,
+    makes_modules: bool,
 ) -> Opened
     requires { is_calling calls.old.at ≡ true }
     ensures shown { result ≡ leads_at calls.new.at }
     ensures turns { CallsNext (allowed_by (SV.allows app.now) SV.Modules.allows) calls.old
         client.old (SV.mark_of app.now context.old) calls.new client.new
         (SV.mark_of app.now context.new) }
+    ensures made { AreMadeBy makes_modules calls.old calls.new }
 {
     let at = mem::replace(&mut calls.at, At::Opening(Place::Lost));
     if !client.has_head() || client.response_written() {
         return Opened::OutOfMemory;
     }
     mem::swap(client, &mut calls.session.seen.downstream);
-    let at = take_next(app, &mut calls.session, context, at);
+    let at = take_next(app, &mut calls.session, context, at, makes_modules);
     mem::swap(client, &mut calls.session.seen.downstream);
     let led = at.leads();
     calls.at = at;
@@ -376,17 +378,19 @@ fn take_next<SV: ProxyHttp>(
     session: &mut Session<SV::Modules>,
     context: &mut SV::CTX,
     at: At<SV::Kept, SV::CTX>,
+    makes_modules: bool,
 ) -> At<SV::Kept, SV::CTX>
     requires calling { is_calling at ≡ true }
     requires open_to { IsTrue (is_open session.old.seen) }
-    ensures { TakesNext (allowed_by (SV.allows app.now) SV.Modules.allows) at
+    ensures turns { TakesNext (allowed_by (SV.allows app.now) SV.Modules.allows) at
         (is_some session.old.modules) session.old.seen (SV.mark_of app.now context.old)
         session.new.seen (SV.mark_of app.now context.new) result }
+    ensures made { AreMadeAt makes_modules at result session.old.modules session.new.modules }
 {
     match at {
         At::Opening(Place::Behind(last)) => {
             let place = Place::Behind(last);
-            At::Opening(take_turn(app, session, context, place, true))
+            At::Opening(take_turn(app, session, context, place, makes_modules))
         }
         At::Opening(Place::Ended(End::Purge)) => match ask_action(app, session, context) {
             Ok(action) => At::Purging(action),

@@ -5,7 +5,7 @@ use bytes::Bytes;
 use relay_connector::{AnyScript, PeerScript, ScriptConnector, Upstream};
 use relay_h1::Connection;
 use relay_links::{CountDelay, MemoryPurger, RoundRobin, ScriptLink, ShutdownAt};
-use relay_proxy::{HttpProxy, Outside, ServerConf};
+use relay_proxy::{HttpProxy, Outside, ServerConf, http_proxy};
 use relay_tasks::Purged;
 use std::alloc::Global;
 use std::test::Fail;
@@ -57,19 +57,38 @@ pub(super) fn answering(alloc: Global) -> Result<AnyScript, Fail> {
     Ok(Upstream::H1(link(alloc, &ANSWERED)?))
 }
 
-/// A proxy of that application over the links of these entries. Each request makes two attempts at
-/// most.
+/// How each proxy is set up: each request makes two attempts at most.
+const CONF: ServerConf = ServerConf { max_retries: 2 };
+
+/// The connector that hands out the links of these entries.
+fn connector_of(alloc: Global, entries: Vec<PeerScript>) -> Result<ScriptConnector, Fail> {
+    Ok(
+        ScriptConnector::new(alloc, entries)
+            .ok()
+            .ok_or("no memory")?,
+    )
+}
+
+/// A proxy of that application over the links of these entries, whose requests make modules.
 pub(super) fn proxy_over(
     alloc: Global,
     application: Counting,
     entries: Vec<PeerScript>,
 ) -> Result<Proxy, Fail> {
-    let connector = ScriptConnector::new(alloc, entries)
-        .ok()
-        .ok_or("no memory")?;
+    let connector = connector_of(alloc, entries)?;
     let purger = MemoryPurger::new(alloc, Purged::NotFound);
-    let conf = ServerConf { max_retries: 2 };
-    Ok(HttpProxy::new(alloc, application, conf, connector, purger))
+    Ok(http_proxy(alloc, CONF, application, connector, purger))
+}
+
+/// The same, whose requests make none.
+pub(super) fn bare_over(
+    alloc: Global,
+    application: Counting,
+    entries: Vec<PeerScript>,
+) -> Result<Proxy, Fail> {
+    let connector = connector_of(alloc, entries)?;
+    let purger = MemoryPurger::new(alloc, Purged::NotFound);
+    Ok(HttpProxy::new(alloc, application, CONF, connector, purger))
 }
 
 /// A proxy of an application that asks for that delay, whose peer answers one request.

@@ -70,7 +70,7 @@ fn tried(processed: &Processed, at: usize) -> Option<Tried> {
 }
 
 /// The calls of a log that are of these hooks, in order.
-fn calls_of(alloc: Global, log: &PhaseLog, hooks: &[Hook]) -> Result<Vec<Hook>, Fail> {
+pub(super) fn calls_of(alloc: Global, log: &PhaseLog, hooks: &[Hook]) -> Result<Vec<Hook>, Fail> {
     let mut calls = Vec::new(alloc);
     for line in log.lines() {
         if hooks.contains(&line.hook) {

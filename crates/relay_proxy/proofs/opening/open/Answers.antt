@@ -1,11 +1,12 @@
 -- The hook that comes next is called, and the request goes on, or ends.
 use Rattle.std.proofs.Common.{List, [], None, ap, arith, refl, subst, sym, ◌∙◌}
 use Rattle.relay_tasks.specs.declared.log.LogEntry.{LogEntry}
-use Rattle.relay_request.specs.Calls.{IsOwing, IsUnended, allowed_by, log_of}
+use Rattle.relay_request.specs.Calls.{IsOwing, IsUnended, allowed_by, is_closing_at, log_of}
 use Rattle.relay_request.specs.Passed.{opened_to}
 use Rattle.relay_request.specs.Turn.{Advances}
 use Rattle.relay_request.specs.declared.calls.Calls.{Calls}
 use Rattle.relay_request.specs.declared.owed.Owed.TheVariants as owing
+use Rattle.relay_request.proofs.MadeLemmas.{closing_unmade}
 use Rattle.relay_turns.proofs.LastCalls.{counted_still, owing_log, owing_on}
 use Rattle.relay_turns.proofs.HookSteps.{answered, answered_owing, counts_called, goes_connecting, known_at, memory_called, memory_logged, opening_on, refusals, unended, untreated}
 use Rattle.relay_turns.proofs.OpenSteps.{called_tries, hooks_leave, hooks_lost, none_tried, opened_on}
@@ -128,3 +129,10 @@ returns-in-OutOfMemory-clause-unended g c = λ none.
     unended _ (g.SV.ProxyHttp.mark_of c.args.app.now) c.args.calls.now c.call_next.new.calls
     c.args.context c.call_next.new.context c.args.session.value c.call_next.new.client
     (rw c.deref_mut.ensures.value at c.in-OutOfMemory.ensures.turns) none
+
+-- a request that hooks answered does not go on to another of them
+pub returns-in-Answered-clause-made : goal.returns-in-Answered-clause-made
+returns-in-Answered-clause-made g c =
+    closing_unmade c.args.makes_modules c.args.calls.now.session.modules
+    c.owe.new.calls.session.modules c.args.calls.now.at c.owe.new.calls.at
+    (c.owe.ensures.stays (ap (λ (k : Calls _ _ _). is_closing_at k.at) c.begin_end.ensures))

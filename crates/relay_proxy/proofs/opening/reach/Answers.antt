@@ -12,6 +12,7 @@ use Rattle.relay_request.specs.declared.record.AttemptRecord.{AttemptRecord}
 use Rattle.relay_turns.proofs.LastCalls.{calls_logged}
 use Rattle.relay_turns.proofs.PurgeSteps.{asks_nothing, final_unpurged, opens_elsewhere}
 use Rattle.relay_turns.proofs.TakenLemmas.{none_asked}
+use Rattle.relay_request.proofs.MadeLemmas.{final_unmade, idle_unmade, purge_unmade}
 use Rattle.relay_request.proofs.TreatLemmas.{still_open}
 use Rattle.relay_proxy.proofs.opening.reach.Goals as goal
 
@@ -146,3 +147,23 @@ returns-in-Some-purge-clause-asks g c =
     none_asked _ _ _ _ _ _ _
     (ap (λ (xs : List AttemptRecord). faults_told xs) c.purge-in-Some-purge.ensures.attempts)
     c.purge-in-Some-purge.ensures.no_items refl refl
+
+-- where no hook before the attempts is called, it is not asked for subrequests
+pub returns-in-Some-clause-made : goal.returns-in-Some-clause-made
+returns-in-Some-clause-made g c =
+    final_unmade c.args.makes_modules c.args.calls.now.session.modules
+    c.answer.new.calls.session.modules c.args.calls.now.at c.answer.new.calls.at c.in-Some.error
+    (sym c.final_error.ensures ∙ c.in-Some.is)
+
+pub returns-in-Some-purge-clause-made : goal.returns-in-Some-purge-clause-made
+returns-in-Some-purge-clause-made g c =
+    purge_unmade c.args.makes_modules c.args.calls.now.session.modules
+    c.purge-in-Some-purge.new.calls.session.modules c.args.calls.now.at
+    c.purge-in-Some-purge.new.calls.at c.in-Some-purge.action
+    (sym c.purge.ensures ∙ c.in-Some-purge.is)
+
+pub returns-clause-made : goal.returns-clause-made
+returns-clause-made g c =
+    idle_unmade c.args.makes_modules c.args.calls.now.session.modules
+    c.connect.new.calls.session.modules c.args.calls.now.at c.connect.new.calls.at
+    (sym c.is_calling.ensures ∙ c.if-is_calling.false)

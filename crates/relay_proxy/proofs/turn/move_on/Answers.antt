@@ -889,3 +889,8 @@ returns-in-Close-clause-purger g c = λ so_far. AsksPurger.nothing refl refl
 
 pub returns-in-Ended-clause-purger : goal.returns-in-Ended-clause-purger
 returns-in-Ended-clause-purger g c = λ so_far. AsksPurger.nothing refl refl
+
+-- where a hook before the attempts is called, the modules stand behind it as the proxy makes them
+pub returns-in-Connect-clause-made : goal.returns-in-Connect-clause-made
+returns-in-Connect-clause-made g c =
+    rw (sym c.replace.ensures.value ∙ c.in-Connect.is) c.reach.ensures.made

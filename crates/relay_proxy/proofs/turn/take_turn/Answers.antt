@@ -11,6 +11,7 @@ use Rattle.relay_request.specs.Purging.{AsksPurger}
 use Rattle.relay_request.specs.Turn.{held_state, world_of}
 use Rattle.relay_request.specs.Uses.{PhaseUses, TurnCounts, TurnUses}
 use Rattle.relay_request.specs.declared.machine.Phase.{Phase}
+use Rattle.relay_request.proofs.MadeLemmas.{relaying_unmade}
 use Rattle.relay_turns.proofs.RefusalLemmas.{none_added}
 use Rattle.relay_turns.proofs.RelayingTurns.{relaying_exchanges, relaying_going, relaying_run, relaying_under, relays_turn}
 use Rattle.relay_turns.proofs.TakenLemmas.{takes_nothing}
@@ -256,3 +257,9 @@ returns-then-is_relaying-clause-once g c = λ not.
 pub returns-then-is_relaying-clause-purger : goal.returns-then-is_relaying-clause-purger
 returns-then-is_relaying-clause-purger g c = λ so_far.
     AsksPurger.nothing refl c.relay.ensures.purged
+
+-- no hook before the attempts is called in an exchange
+pub returns-then-is_relaying-clause-made : goal.returns-then-is_relaying-clause-made
+returns-then-is_relaying-clause-made g c =
+    relaying_unmade c.args.makes_modules c.args.calls.now c.relay.new.calls c.args.phase.now
+    (sym c.is_relaying.ensures ∙ c.if-is_relaying.true)

@@ -6,4 +6,4 @@ use Rattle.relay_request.proofs.calls.call_next.Goals as goal
 pub returns-clause-turns : goal.returns-clause-turns
 returns-clause-turns g c =
     rw (c.swap-2.ensures.x_after, sym c.replace-at.ensures.value, sym c.swap.ensures.y_after)
-    c.take_next-at.ensures
+    c.take_next-at.ensures.turns

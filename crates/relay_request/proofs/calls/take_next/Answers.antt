@@ -18,12 +18,13 @@ use Rattle.relay_request.specs.Calls.{TakesNext}
 use Rattle.relay_request.specs.Named.{peer_in}
 use Rattle.relay_request.proofs.BesideLemmas.{asks_beside}
 use Rattle.relay_request.proofs.CallLemmas.{turn_allowed}
+use Rattle.relay_request.proofs.MadeLemmas.{turn_made}
 use Rattle.relay_request.proofs.NamedLemmas.{names_one, peer_last}
 use Rattle.relay_request.proofs.calls.take_next.Goals as goal
 
 -- the hook that comes next
-pub returns-in-Opening-Behind : goal.returns-in-Opening-Behind
-returns-in-Opening-Behind g c =
+pub returns-in-Opening-Behind-clause-turns : goal.returns-in-Opening-Behind-clause-turns
+returns-in-Opening-Behind-clause-turns g c =
     let app = g.SV.ProxyHttp.allows c.args.app.now in
     let allows = g.SV.Modules.HttpModule.allows in
     rw (c.in-Opening-Behind.is, c.in-Opening-Behind.field-0-is)
@@ -38,8 +39,8 @@ returns-in-Opening-Behind g c =
     _ (place.Behind c.in-Opening-Behind.last) _ _ _ _ _ c.take_turn.ensures.turns))
 
 -- what a purge does was asked
-pub returns-in-Ok : goal.returns-in-Ok
-returns-in-Ok g c =
+pub returns-in-Ok-clause-turns : goal.returns-in-Ok-clause-turns
+returns-in-Ok-clause-turns g c =
     let here = c.in-Opening-Ended-Purge in
     let asks = asks_beside (g.SV.ProxyHttp.allows c.args.app.now)
     (AllowsMade g.SV.Modules.HttpModule.allows None)
@@ -61,8 +62,8 @@ returns-in-Ok g c =
     })
 
 -- a peer was named
-pub returns-in-Ok-name_peer : goal.returns-in-Ok-name_peer
-returns-in-Ok-name_peer g c =
+pub returns-in-Ok-name_peer-clause-turns : goal.returns-in-Ok-name_peer-clause-turns
+returns-in-Ok-name_peer-clause-turns g c =
     let here = c.in-Opening-Ended-Attempts in
     let names = NamesPeer-within (g.SV.ProxyHttp.allows c.args.app.now)
     (λ (call : ModuleCall). (made : g.row.SV-Modules.Denot)
@@ -83,8 +84,8 @@ returns-in-Ok-name_peer g c =
     }))
 
 -- or it failed
-pub returns-in-Err-Error : goal.returns-in-Err-Error
-returns-in-Err-Error g c =
+pub returns-in-Err-Error-clause-turns : goal.returns-in-Err-Error-clause-turns
+returns-in-Err-Error-clause-turns g c =
     let here = c.in-Opening-Ended-Attempts in
     let call = NamesPeer-within (g.SV.ProxyHttp.allows c.args.app.now)
     (λ (call : ModuleCall). (made : g.row.SV-Modules.Denot)
@@ -108,8 +109,8 @@ returns-in-Err-Error g c =
     }))
 
 -- no warning is to be written
-pub returns-in-Ok-true : goal.returns-in-Ok-true
-returns-in-Ok-true g c =
+pub returns-in-Ok-true-clause-turns : goal.returns-in-Ok-true-clause-turns
+returns-in-Ok-true-clause-turns g c =
     let is_yes : c.in-Ok-true.field-0 ≡ true = grind (arith, c.in-Ok-true.field-0-test) in
     let looks = LooksOnce-within (g.SV.ProxyHttp.allows c.args.app.now)
     (λ (call : ModuleCall). (made : g.row.SV-Modules.Denot)
@@ -129,8 +130,8 @@ returns-in-Ok-true g c =
     }))
 
 -- or one is
-pub returns-in-Ok-false : goal.returns-in-Ok-false
-returns-in-Ok-false g c =
+pub returns-in-Ok-false-clause-turns : goal.returns-in-Ok-false-clause-turns
+returns-in-Ok-false-clause-turns g c =
     let is_no : c.in-Ok-false.field-0 ≡ false = grind (arith, c.in-Ok-false.field-0-test) in
     let looks = LooksOnce-within (g.SV.ProxyHttp.allows c.args.app.now)
     (λ (call : ModuleCall). (made : g.row.SV-Modules.Denot)
@@ -150,8 +151,8 @@ returns-in-Ok-false g c =
     }))
 
 -- the request was asked for in one line
-pub returns-in-Ok-summarize : goal.returns-in-Ok-summarize
-returns-in-Ok-summarize g c =
+pub returns-in-Ok-summarize-clause-turns : goal.returns-in-Ok-summarize-clause-turns
+returns-in-Ok-summarize-clause-turns g c =
     let looks = LooksOnce-within (g.SV.ProxyHttp.allows c.args.app.now)
     (λ (call : ModuleCall). (made : g.row.SV-Modules.Denot)
     × g.SV.Modules.HttpModule.allows made call) hook.RequestSummary refl station.warning
@@ -168,3 +169,11 @@ returns-in-Ok-summarize g c =
       goes = tt;
       tells = tt;
     }))
+
+-- the modules stand behind a turn of the hooks before the attempts
+pub returns-in-Opening-Behind-clause-made : goal.returns-in-Opening-Behind-clause-made
+returns-in-Opening-Behind-clause-made g c =
+    rw (c.in-Opening-Behind.is, c.in-Opening-Behind.field-0-is)
+    (turn_made g.row.SV-CTX.Denot c.args.makes_modules c.args.session.now.modules
+    c.take_turn.new.session.modules (place.Behind c.in-Opening-Behind.last) c.take_turn.result
+    c.take_turn.ensures.made)

@@ -10,6 +10,7 @@ use Rattle.relay_request.specs.declared.machine.Phase.{Phase}
 use Rattle.relay_request.specs.declared.work.Work.{Work}
 use Rattle.relay_request.specs.declared.work.TheConstants.Work.{NONE}
 use Rattle.relay_request.proofs.DelayLemmas.{handed_none, since_same}
+use Rattle.relay_request.proofs.MadeLemmas.{last_unmade, over_unmade}
 use Rattle.relay_request.specs.Stock.{items_held}
 use Rattle.relay_turns.proofs.TakenLemmas.{stocks_kept}
 use Rattle.relay_turns.proofs.EndSteps.{calls_last, last_elsewhere, last_on, rests_on, rests_uses}
@@ -162,3 +163,15 @@ returns-clause-moves g c = λ a is moved.
             | inr (inr called) ↦ inr (inr (inl called))
           ]
     ]
+
+-- a request that has ended is not asked for subrequests
+pub returns-in-Some-clause-made : goal.returns-in-Some-clause-made
+returns-in-Some-clause-made g c =
+    last_unmade c.args.self.now.makes_modules c.args.machine.now.calls
+    c.call_last-step.new.machine.calls c.args.machine.now.machine.phase
+    c.args.machine.now.calls.at c.in-Some.goes_back (sym c.goes_on_last.ensures ∙ c.in-Some.is)
+
+pub returns-then-is_over-clause-made : goal.returns-then-is_over-clause-made
+returns-then-is_over-clause-made g c =
+    over_unmade c.args.self.now.makes_modules c.args.machine.now.calls c.rest.new.self.calls
+    c.args.machine.now.machine.phase (sym c.is_over.ensures ∙ c.if-is_over.true)
