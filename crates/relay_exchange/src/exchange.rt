@@ -1,6 +1,7 @@
 //! One exchange over any two sides: the head of the request is sent, and then both bodies flow
 //! (RFC 9112, sections 6, 7 and 9.3).
 ghost use Rattle.std.specs.Prelude.{◌≡◌, ◌⊎◌, ◌≤◌, true, false, None, Some, IsTrue};
+ghost use Rattle.std.specs.Borrow.{sem};
 ghost use Rattle.relay_tasks.specs.declared.error.Error.{Error};
 ghost use Rattle.relay_core.specs.Asked.{WaitRose};
 ghost use Rattle.relay_core.specs.Causes.{says_failed, says_finished};
@@ -9,6 +10,7 @@ ghost use Rattle.relay_core.specs.Past.{Origin, DownPast, UpPast};
 ghost use Rattle.relay_core.specs.Sound.{IsSound};
 ghost use Rattle.relay_core.specs.Table.{begins, core, enabled, with_replay};
 ghost use Rattle.relay_core.specs.Uses.{Asks, AsksOne};
+ghost use Rattle.relay_exchange.specs.UpLent.{LendsUp};
 ghost use Rattle.relay_exchange.specs.Exchange.{HasMoved, IsSilentLink, IsUnderWay, MeetsSilence, TellsOn, Turns, may_keep_at, put_first, stage_of};
 
 use crate::round::go_round;
@@ -168,6 +170,14 @@ impl<U> Exchange<U> {
         ensures { result.now ≡ self.now.up }
     {
         &self.up
+    }
+
+    /// The upstream's side, to be changed. How far the exchange has come stays.
+    pub fn up_mut(&mut self) -> &mut U
+        ensures* writes_back { sem 𝓛 (LendsUp U.row self.entry result) }
+        ensures value { result.now ≡ self.old.up }
+    {
+        &mut self.up
     }
 
     /// Whether the upstream's link may be kept for a next request, as far as the duplex knows: not

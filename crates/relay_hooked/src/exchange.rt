@@ -29,6 +29,7 @@ ghost use Rattle.relay_hooked.specs.Head.{core_in, filtering_of, link_of, may_ke
 use relay_core::{Piece, Step};
 use relay_exchange::{Exchange, Turn};
 use relay_filters::{Hooked, Rested};
+use relay_h1::Ahead;
 use relay_hooks::{ProxyHttp, Session};
 use relay_links::{ByteLink, Schedule};
 use relay_peer::PeerSide;
@@ -244,6 +245,15 @@ impl<L> HookedExchange<L> {
         ensures { result.now ≡ link_of self.now }
     {
         self.exchange.up().link()
+    }
+
+    /// Reads the response into that buffer from now on, and leaves its own in its place, where
+    /// neither has bytes ahead. What can be seen of both stays as it was.
+    pub fn swap_room(&mut self, room: &mut Ahead)
+        ensures same { self.new ≡ self.old }
+        ensures room { room.new ≡ room.old }
+    {
+        self.exchange.up_mut().swap_room(room);
     }
 
     /// The session of the client's request, and the link.

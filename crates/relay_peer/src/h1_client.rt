@@ -15,6 +15,7 @@ use crate::request_writing::{RequestPlace, RequestWriting};
 use crate::response_reading::ResponseReading;
 use bytes::Bytes;
 use http::Method;
+use relay_h1::Ahead;
 use relay_links::{ByteLink, Put};
 use relay_tasks::{Context, ErrorSource, Fail, HttpTask, Pause, RequestHeader, Result, Took};
 use std::alloc::Global;
@@ -168,6 +169,15 @@ impl<L> H1Client<L> {
         ensures { result.now ≡ self.now.link }
     {
         &self.link
+    }
+
+    /// Reads into that buffer from now on, and leaves its own in its place, where neither has bytes
+    /// ahead. What can be seen of both stays as it was.
+    pub fn swap_room(&mut self, room: &mut Ahead)
+        ensures same { self.new ≡ self.old }
+        ensures room { room.new ≡ room.old }
+    {
+        self.response.swap_room(room);
     }
 
     /// The link alone. What is queued and what was read ahead is dropped.

@@ -19,6 +19,7 @@ ghost use Rattle.relay_peer.specs.Peer.{IsPeerSide, PeerBlames, CutsTask, IsNew,
 use crate::h1_client::H1Client;
 use bytes::Bytes;
 use relay_core::{Told, Up};
+use relay_h1::Ahead;
 use relay_links::{ByteLink, Put, UpKind};
 use relay_tasks::{Context, Error, ErrorSource, Fail, HttpTask, RequestHeader, Result, Took};
 use std::alloc::Global;
@@ -75,6 +76,15 @@ impl<L> PeerSide<L> {
         ensures { result.now ≡ self.now.client.link }
     {
         self.client.link()
+    }
+
+    /// Reads into that buffer from now on, and leaves its own in its place, as
+    /// `H1Client::swap_room`.
+    pub fn swap_room(&mut self, room: &mut Ahead)
+        ensures same { self.new ≡ self.old }
+        ensures room { room.new ≡ room.old }
+    {
+        self.client.swap_room(room);
     }
 
     /// The link alone.

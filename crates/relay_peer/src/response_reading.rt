@@ -73,6 +73,17 @@ impl ResponseReading {
         }
     }
 
+    /// Reads into that buffer from now on, and leaves its own in its place, where neither has bytes
+    /// ahead. What can be seen of both stays as it was.
+    pub(crate) fn swap_room(&mut self, room: &mut Ahead)
+        ensures same { self.new ≡ self.old }
+        ensures room { room.new ≡ room.old }
+    {
+        if self.ahead.is_empty() && room.is_empty() {
+            mem::swap(&mut self.ahead, room);
+        }
+    }
+
     /// The next task of the response to that method: one that stands ahead, or else one that stands
     /// there after one read of the link.
     pub(crate) fn read_task<L: ByteLink>(
