@@ -27,7 +27,7 @@ ghost use Rattle.relay_request.specs.declared.machine.Phase.{Phase};
 use crate::finish::{finish, settle};
 use crate::turn::take_turn;
 use relay_connector::{Connector, LinkOf};
-use relay_h1::Connection;
+use relay_h1::{Ahead, Connection};
 use relay_hooks::ProxyHttp;
 use relay_links::{ByteLink, Delay, Purger, Schedule, ShutdownWatch};
 use relay_request::{
@@ -62,6 +62,8 @@ pub struct HttpProxy<SV, K, P> {
     connector: K,
     purger: P,
     requests_ended: u64,
+    // The buffer into which responses are read, one turn after the other. No bytes are ahead in it.
+    room: Ahead,
 }
 
 /// A proxy whose requests make their modules: `HttpProxy::new`, and then `handle_init_modules`.
@@ -177,6 +179,7 @@ impl<SV: ProxyHttp, K: Connector, P: Purger> HttpProxy<SV, K, P> {
             connector,
             purger,
             requests_ended: 0,
+            room: Ahead::new(alloc),
         }
     }
 
@@ -617,6 +620,7 @@ impl<SV: ProxyHttp, K: Connector, P: Purger> HttpProxy<SV, K, P> {
             &mut machine.calls,
             client,
             &mut outside.schedule,
+            &mut self.room,
             &mut machine.machine.phase,
         );
         machine.machine.turns = count_turn(machine.machine.turns, work);

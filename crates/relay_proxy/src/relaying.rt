@@ -31,7 +31,7 @@ ghost use Rattle.relay_request.specs.Work.{total_work};
 
 use relay_core::Step;
 use relay_exchange::Turn;
-use relay_h1::Connection;
+use relay_h1::{Ahead, Connection};
 use relay_hooked::HookedExchange;
 use relay_hooks::{HttpModule, ProxyHttp, Session};
 use relay_links::{ByteLink, Schedule};
@@ -60,6 +60,7 @@ pub(crate) fn relay<SV: ProxyHttp, D: ByteLink, U: Drop, L: ByteLink, H: Schedul
     calls: &mut Calls<SV::Modules, SV::Kept, SV::CTX>,
     client: &mut Connection<D, U>,
     schedule: &mut H,
+    room: &mut Ahead,
     phase: &mut Phase<L, SV::CTX>,
 ) -> Did
     requires { is_relaying phase.old ≡ true }
@@ -121,8 +122,9 @@ pub(crate) fn relay<SV: ProxyHttp, D: ByteLink, U: Drop, L: ByteLink, H: Schedul
     ensures tries { attempts_in phase.new ≡ attempts_in phase.old }
     ensures kept { client.new.kept ≡ client.old.kept }
     ensures client_start { D.start client.new.link ≡ D.start client.old.link }
+    ensures room { room.new ≡ room.old }
 {
-    let Turned { turn, asked } = turn_within(hooks, calls, phase, client, schedule);
+    let Turned { turn, asked } = turn_within(hooks, calls, phase, client, schedule, room);
     match turn.step {
         Step::Moved => Did {
             step: RunStep::Moved,
@@ -320,6 +322,7 @@ fn turn_within<SV: ProxyHttp, D: ByteLink, U: Drop, L: ByteLink, H: Schedule>(
     phase: &mut Phase<L, SV::CTX>,
     client: &mut Connection<D, U>,
     schedule: &mut H,
+    room: &mut Ahead,
 ) -> Turned
     requires { is_relaying phase.old ≡ true }
     ensures turns { TurnsWithin {C = SV.CTX} L.state L.start (D.state client.old.link)
@@ -340,9 +343,10 @@ fn turn_within<SV: ProxyHttp, D: ByteLink, U: Drop, L: ByteLink, H: Schedule>(
     ensures tries { attempts_in phase.new ≡ attempts_in phase.old }
     ensures kept { client.new.kept ≡ client.old.kept }
     ensures client_start { D.start client.new.link ≡ D.start client.old.link }
+    ensures room { room.new ≡ room.old }
 {
     match phase {
-        Phase::Relay(attempt) => turn_counted(hooks, calls, attempt, client, schedule),
+        Phase::Relay(attempt) => turn_counted(hooks, calls, attempt, client, schedule, room),
         Phase::ReadHead => unreachable!(),
         Phase::Connect(_, _, _) => unreachable!(),
         Phase::Unlinked(_, _, _, _) => unreachable!(),
@@ -357,13 +361,15 @@ fn turn_within<SV: ProxyHttp, D: ByteLink, U: Drop, L: ByteLink, H: Schedule>(
 }
 
 /// One turn of the exchange of an attempt over the client's connection, with its context, and
-/// whether a count of uses rose in it.
+/// whether a count of uses rose in it. The response is read into `room`, which comes back unless
+/// bytes stand ahead in it.
 fn turn_counted<SV: ProxyHttp, D: ByteLink, U: Drop, L: ByteLink, H: Schedule>(
     hooks: &SV,
     calls: &mut Calls<SV::Modules, SV::Kept, SV::CTX>,
     attempt: &mut Attempt<L, SV::CTX>,
     client: &mut Connection<D, U>,
     schedule: &mut H,
+    room: &mut Ahead,
 ) -> Turned
     ensures turns { TurnsOver L.state L.start (D.state client.old.link) (D.state client.new.link)
         client.old.ahead client.new.ahead (log_of calls.old) (log_of calls.new)
@@ -378,7 +384,9 @@ fn turn_counted<SV: ProxyHttp, D: ByteLink, U: Drop, L: ByteLink, H: Schedule>(
     ensures lease { attempt.new.lease ≡ attempt.old.lease }
     ensures kept { client.new.kept ≡ client.old.kept }
     ensures client_start { D.start client.new.link ≡ D.start client.old.link }
+    ensures room { room.new ≡ room.old }
 {
+    attempt.exchange.swap_room(room);
     let before = Uses::of(client, &attempt.exchange);
     let turn = turn_over(
         hooks,
@@ -389,6 +397,7 @@ fn turn_counted<SV: ProxyHttp, D: ByteLink, U: Drop, L: ByteLink, H: Schedule>(
         schedule,
     );
     let asked = before.have_risen(Uses::of(client, &attempt.exchange));
+    attempt.exchange.swap_room(room);
     Turned { turn, asked }
 }
 

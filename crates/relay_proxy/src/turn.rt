@@ -25,7 +25,7 @@ use crate::preparing::prepare;
 use crate::relaying::relay;
 use crate::unlinked::answer_unlinked;
 use relay_connector::{Connector, LinkOf};
-use relay_h1::Connection;
+use relay_h1::{Ahead, Connection};
 use relay_hooks::ProxyHttp;
 use relay_links::{ByteLink, Purger, Schedule};
 use relay_request::{Calls, Did, Next, Phase, RunStep, Work};
@@ -48,6 +48,7 @@ pub(crate) fn take_turn<SV: ProxyHttp, K: Connector, P: Purger, D: ByteLink, U: 
     calls: &mut Calls<SV::Modules, SV::Kept, SV::CTX>,
     client: &mut Connection<D, U>,
     schedule: &mut H,
+    room: &mut Ahead,
     phase: &mut Phase<LinkOf<K>, SV::CTX>,
 ) -> Did
     ensures turn { (s : Start) (p : Passed) (own : List _) → s.most ≡ most → s.first ≡ first
@@ -149,6 +150,7 @@ pub(crate) fn take_turn<SV: ProxyHttp, K: Connector, P: Purger, D: ByteLink, U: 
     ensures faults { K.fault_count connector.old ≤ K.fault_count connector.new }
     ensures kept { client.new.kept ≡ client.old.kept }
     ensures client_start { D.start client.new.link ≡ D.start client.old.link }
+    ensures room { room.new ≡ room.old }
     ensures links { all_links ⟦<LinkOf<K> as ByteLink>⟧.start (K.returned connector.new)
         (items_held ⟦<LinkOf<K> as ByteLink>⟧.start phase.new)
         ≡ all_links ⟦<LinkOf<K> as ByteLink>⟧.start (K.returned connector.old)
@@ -157,7 +159,7 @@ pub(crate) fn take_turn<SV: ProxyHttp, K: Connector, P: Purger, D: ByteLink, U: 
     ensures made { AreMadeIn makes_modules phase.old calls.old calls.new }
 {
     if phase.is_relaying() {
-        return relay(alloc, hooks, first, calls, client, schedule, phase);
+        return relay(alloc, hooks, first, calls, client, schedule, room, phase);
     }
     move_on(
         alloc,
