@@ -4,13 +4,14 @@ ghost use Rattle.http_header.specs.HeaderMap.{get_all};
 ghost use Rattle.relay_authority.specs.Heads.{host_name, hosts, first_host, uri_authority_of, head_authority};
 
 use crate::raw::raw_target_authority;
+use http_header::HOST;
 use relay_tasks::RequestHeader;
 
 /// The value of the first Host field.
 pub fn first_host(head: &RequestHeader) -> Option<&[u8]>
     ensures { option_copied result ≡ first_host head.now }
 {
-    match head.headers().get("host") {
+    match head.headers().get(&HOST) {
         Some(value) => Some(value.as_bytes()),
         None => None,
     }
@@ -19,7 +20,7 @@ pub fn first_host(head: &RequestHeader) -> Option<&[u8]>
 fn host_count(head: &RequestHeader) -> usize
     ensures { result ≡ length (get_all head.now.fields host_name) }
 {
-    head.headers().get_all("host").iter().count()
+    head.headers().get_all(&HOST).iter().count()
 }
 
 /// Whether there is a Host field.
