@@ -4,7 +4,7 @@ ghost use Rattle.std.specs.Prelude.{◌≡◌, ◌⊎◌};
 use crate::announcer::Announcer;
 use bytes::Bytes;
 use relay_links::MemoryPurger;
-use relay_proxy::{Defaults, ServerConf, http_proxy};
+use relay_proxy::{Defaults, HttpProxy, ServerConf};
 use relay_server::serve_with;
 use relay_tasks::{Peer, Purged};
 use relay_tcp::{TcpConnector, TcpPoller};
@@ -85,7 +85,8 @@ fn serve_peer<R: Net + Wait + Eprint + Clone + Drop>(
         tls: false,
         allows_h1: true,
     });
-    let mut proxy = http_proxy(alloc, CONF, application, connector, purger);
+    // The application has no modules, so none are made: a request has a turn and some calls less.
+    let mut proxy = HttpProxy::new(alloc, application, CONF, connector, purger);
     let mut announcer = Announcer { rt, poller, peer };
     match serve_with(rt, alloc, &mut proxy, &mut announcer, port, requests).status {
         0 => Ok(()),

@@ -24,8 +24,8 @@ returns-clause-turns g c =
       measured = measured (g.D.ByteLink.state c.args.client.now.link)
           (g.D.ByteLink.state c.turn_over-turn.new.client.link)
           (g.L.ByteLink.state (link_of c.swap_room.new.self))
-          (g.L.ByteLink.state (link_of c.turn_over-turn.new.exchange)) c.of-before.result c.of.result
-          c.have_risen-asked.result c.have_risen-asked.ensures.rose
+          (g.L.ByteLink.state (link_of c.turn_over-turn.new.exchange))
+          c.of-before.result c.of.result c.have_risen-asked.result c.have_risen-asked.ensures.rose
           c.have_risen-asked.ensures.client_fits c.have_risen-asked.ensures.upstream_fits
           c.of-before.ensures c.of.ensures;
     }
