@@ -8,7 +8,7 @@ ghost use Rattle.relay_hooks.specs.Session.{request_head, moment};
 ghost use Rattle.relay_calls.specs.Entry.{cleared, told, with_entry};
 
 use relay_modules::Seen;
-use relay_tasks::{Error, Fail, Hook, Item, LogEntry, Result, SharedRequest, View};
+use relay_tasks::{Error, Fail, Hook, Item, LogEntry, RequestHeader, Result, Shown, View};
 
 /// A call that is about to be made: which hook, the mark of its context, what it is given, and what
 /// the session shows.
@@ -69,7 +69,7 @@ pub fn log_call(seen: &mut Seen, begun: Begun, outcome: Outcome, mark: u64) -> R
     ensures memory { IsOkUnless result Fail.OutOfMemory }
     ensures err { OnErr result (seen.new.log ≡ seen.old.log) }
 {
-    let head = told_head(seen)?;
+    let head = told_head(seen);
     let Begun {
         hook,
         mark: mark_before,
@@ -81,7 +81,8 @@ pub fn log_call(seen: &mut Seen, begun: Begun, outcome: Outcome, mark: u64) -> R
         error,
         delay,
     } = outcome;
-    let wrote = seen.take_wrote();
+    let queued = seen.take_wrote();
+    let wrote = Shown::of(&queued);
     seen.log.push(LogEntry {
         hook,
         mark_before,
@@ -99,16 +100,13 @@ pub fn log_call(seen: &mut Seen, begun: Begun, outcome: Outcome, mark: u64) -> R
 
 /// The head that an entry tells: that of a session which was lent its head.
 #[inline(always)]
-fn told_head(seen: &mut Seen) -> Result<Option<SharedRequest>>
-    requires { IsSome (head_of seen.old.downstream.reading) }
-    ensures ok { IfOk result (λ told. told
-        ≡ told_head seen.old.touched (request_head seen.old)) }
-    ensures memory { IsOkUnless result Fail.OutOfMemory }
-    ensures same { seen.new ≡ seen.old }
+fn told_head(seen: &Seen) -> Option<Shown<RequestHeader>>
+    requires { IsSome (head_of seen.now.downstream.reading) }
+    ensures { result ≡ told_head seen.now.touched (request_head seen.now) }
 {
     if seen.touched {
-        Ok(Some(seen.share_req_header()?))
+        Some(Shown::of(seen.req_header()))
     } else {
-        Ok(None)
+        None
     }
 }

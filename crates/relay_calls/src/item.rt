@@ -7,7 +7,7 @@ ghost use Rattle.relay_hooks.specs.Call.{trailed};
 use crate::entry::Told;
 use bytes::Bytes;
 use http_header::HeaderMap;
-use relay_tasks::{Fail, Item, ResponseHeader, Result, Shared, copy_fields, copy_piece};
+use relay_tasks::{Fail, Item, ResponseHeader, Result, Shown, shown_piece};
 use std::alloc::Global;
 
 /// No item.
@@ -28,7 +28,7 @@ pub fn head_item(alloc: Global, head: &mut ResponseHeader, end: bool) -> Result<
     ensures same { head.new ≡ head.old }
 {
     Ok(Told {
-        item: Item::Response(head.share(alloc)?, end),
+        item: Item::Response(Shown::of(head), end),
     })
 }
 
@@ -39,7 +39,7 @@ pub fn piece_item(piece: &Option<Bytes>, end: bool) -> Result<Told>
     ensures memory { IsOkUnless result Fail.OutOfMemory }
 {
     Ok(Told {
-        item: Item::Piece(copy_piece(piece)?, end),
+        item: Item::Piece(shown_piece(piece), end),
     })
 }
 
@@ -49,7 +49,7 @@ pub fn fields_item(alloc: Global, fields: &HeaderMap) -> Result<Told>
     ensures memory { IsOkUnless result Fail.OutOfMemory }
 {
     Ok(Told {
-        item: Item::Trailers(Some(Shared::new(alloc, copy_fields(fields)?)?)),
+        item: Item::Trailers(Some(Shown::of(fields))),
     })
 }
 
@@ -72,7 +72,7 @@ fn last_piece(bytes: &Bytes) -> Result<Told>
     ensures memory { IsOkUnless result Fail.OutOfMemory }
 {
     Ok(Told {
-        item: Item::Piece(Some(bytes.clone()?), true),
+        item: Item::Piece(Some(Shown::of(bytes)), true),
     })
 }
 

@@ -15,7 +15,7 @@ use crate::settled::{only, told};
 use bytes::Bytes;
 use relay_calls::{begin, log_call};
 use relay_hooks::{FailToProxy, ProxyHttp, Session};
-use relay_tasks::{Error, Fail, Hook, Item, Result};
+use relay_tasks::{Error, Fail, Hook, Item, Result, Shown};
 use std::alloc::AllocError;
 
 /// Has the client answered for a final error.
@@ -90,7 +90,7 @@ pub fn call_request_summary<SV: ProxyHttp>(
     let alloc = session.seen.alloc;
     let text = app.request_summary(alloc, session, ctx)?;
     let text = Bytes::from_vec(text).map_err(AllocError::from)?;
-    let output = only(Item::Text(text.clone()?));
+    let output = only(Item::Text(Shown::of(&text)));
     log_call(&mut session.seen, begun, output, mark)?;
     Ok(text)
 }

@@ -10,7 +10,7 @@ ghost use Rattle.relay_calls.specs.Entry.{cleared};
 use bytes::Bytes;
 use relay_calls::{Begun, Told, begin};
 use relay_modules::Seen;
-use relay_tasks::{Error, Fail, Hook, Item, Peer, RequestHeader, Result};
+use relay_tasks::{Error, Fail, Hook, Item, Peer, RequestHeader, Result, Shown};
 
 /// A head of a request.
 #[inline(always)]
@@ -20,7 +20,7 @@ pub(crate) fn request_item(head: &mut RequestHeader) -> Result<Told>
     ensures same { head.new ≡ head.old }
 {
     Ok(Told {
-        item: Item::Request(head.share()?),
+        item: Item::Request(Shown::of(head)),
     })
 }
 
@@ -35,7 +35,7 @@ pub(crate) fn session_item(seen: &mut Seen) -> Result<Told>
     ensures shown { head_of seen.old.downstream.reading ≡ Some (request_head seen.old) }
 {
     Ok(Told {
-        item: Item::Request(seen.share_req_header()?),
+        item: Item::Request(Shown::of(seen.req_header())),
     })
 }
 
@@ -46,7 +46,7 @@ pub(crate) fn peer_item(peer: &Peer, reused: bool) -> Result<Told>
     ensures memory { IsOkUnless result Fail.OutOfMemory }
 {
     Ok(Told {
-        item: Item::Addressed(peer.copy()?, reused),
+        item: Item::Addressed(Shown::of(peer), reused),
     })
 }
 
@@ -56,7 +56,7 @@ pub(crate) fn message_item(message: &Bytes, final_hop: bool) -> Result<Told>
     ensures memory { IsOkUnless result Fail.OutOfMemory }
 {
     Ok(Told {
-        item: Item::Message(Some(message.clone()?), final_hop),
+        item: Item::Message(Some(Shown::of(message)), final_hop),
     })
 }
 

@@ -9,7 +9,7 @@ ghost use Rattle.relay_phases.specs.Settled.{handed, left_of};
 use bytes::Bytes;
 use relay_calls::Outcome;
 use relay_hooks::FailToProxy;
-use relay_tasks::{Error, Fail, Injected, Item, Peer, Result, Shared, copy_piece};
+use relay_tasks::{Error, Fail, Injected, Item, Peer, Result, Shown, shown_piece};
 use std::alloc::Global;
 
 /// What a hook answered, or its error.
@@ -123,7 +123,7 @@ impl Settled<Peer> {
         ensures memory { IsOkUnless result Fail.OutOfMemory }
     {
         match &self.answer {
-            Ok(peer) => Ok(only(Item::Addressed(peer.copy()?, false))),
+            Ok(peer) => Ok(only(Item::Addressed(Shown::of(peer), false))),
             Err(error) => Ok(failed(Item::Nothing, *error)),
         }
     }
@@ -137,7 +137,7 @@ impl Settled<Injected> {
         ensures memory { IsOkUnless result Fail.OutOfMemory }
     {
         match &self.answer {
-            Ok(injected) => Ok(only(Item::Injected(Shared::new(alloc, injected.copy()?)?))),
+            Ok(injected) => Ok(only(Item::Injected(Shown::of(injected)))),
             Err(error) => Ok(failed(Item::Nothing, *error)),
         }
     }
@@ -152,7 +152,7 @@ impl Settled<Option<Bytes>> {
         ensures memory { IsOkUnless result Fail.OutOfMemory }
     {
         match &self.answer {
-            Ok(message) => Ok(only(Item::Message(copy_piece(message)?, final_hop))),
+            Ok(message) => Ok(only(Item::Message(shown_piece(message), final_hop))),
             Err(error) => Ok(failed(Item::Nothing, *error)),
         }
     }
@@ -166,7 +166,7 @@ impl Settled<Bytes> {
         ensures memory { IsOkUnless result Fail.OutOfMemory }
     {
         match &self.answer {
-            Ok(text) => Ok(only(Item::Text(text.clone()?))),
+            Ok(text) => Ok(only(Item::Text(Shown::of(text)))),
             Err(error) => Ok(failed(Item::Nothing, *error)),
         }
     }

@@ -3,9 +3,9 @@ use crate::error::Error;
 use crate::hook::Hook;
 use crate::message::Injected;
 use crate::peer::{Peer, PurgeAction, Purged};
-use crate::request::SharedRequest;
-use crate::response::SharedResponse;
-use crate::shared::Shared;
+use crate::request::RequestHeader;
+use crate::response::ResponseHeader;
+use crate::shown::Shown;
 use crate::task_list::TaskList;
 use bytes::Bytes;
 use http_header::HeaderMap;
@@ -14,20 +14,20 @@ use http_header::HeaderMap;
 /// an item is small.
 pub enum Item {
     Nothing,
-    Request(SharedRequest),
-    Response(SharedResponse, bool),
-    Piece(Option<Bytes>, bool),
-    Trailers(Option<Shared<HeaderMap>>),
-    Message(Option<Bytes>, bool),
+    Request(Shown<RequestHeader>),
+    Response(Shown<ResponseHeader>, bool),
+    Piece(Option<Shown<Bytes>>, bool),
+    Trailers(Option<Shown<HeaderMap>>),
+    Message(Option<Shown<Bytes>>, bool),
     Answer(bool),
-    Addressed(Peer, bool),
+    Addressed(Shown<Peer>, bool),
     Failure(Error),
     Code(u16, bool),
     Status(Purged),
     Action(PurgeAction),
-    Text(Bytes),
+    Text(Shown<Bytes>),
     Kept(bool),
-    Injected(Shared<Injected>),
+    Injected(Shown<Injected>),
 }
 
 // A call in place of the variants: what drops an item needs not know of them.
@@ -73,8 +73,8 @@ pub struct LogEntry {
     pub mark_after: u64,
     pub input: Item,
     pub output: Item,
-    pub wrote: TaskList,
-    pub head: Option<SharedRequest>,
+    pub wrote: Shown<TaskList>,
+    pub head: Option<Shown<RequestHeader>>,
     pub delay: Option<u64>,
     pub keepalive: bool,
     pub error: Option<Error>,
