@@ -156,7 +156,7 @@ fn entry(alloc: Global, input: Item, output: Item, delay: Option<u64>) -> LogEnt
         mark_after: 1,
         input,
         output,
-        wrote: TaskList::new(alloc),
+        wrote: Shown::of(&TaskList::new(alloc)),
         error: None,
         head: None,
         keepalive: true,
@@ -179,7 +179,7 @@ fn copied_peer() -> Result<Peer> {
 }
 
 fn logs(alloc: Global) -> Result<bool> {
-    let input = Item::Addressed(copied_peer()?, true);
+    let input = Item::Addressed(Shown::of(&copied_peer()?), true);
     let mut log = PhaseLog::new(alloc);
     let was_empty = log.is_empty();
     log.push(entry(alloc, input, Item::Answer(true), None))?;
